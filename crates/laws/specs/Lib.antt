@@ -1,0 +1,5 @@
+-- The relations and functions that the laws speak of.
+pub mod Fold
+pub mod Rounding
+pub mod Size
+pub mod Units
