@@ -1,0 +1,7 @@
+-- Laws on the roots.
+pub mod HypotBound
+pub mod HypotCode
+pub mod NearestSqrt
+pub mod OneDigitMore
+pub mod SqrtCode
+pub mod WholeRoots
