@@ -4,7 +4,6 @@ use mathlib.Core.Bool.{Bool, true, false, not, _&&_, _||_}
 use mathlib.Core.Logic.{_⊎_, inl, inr}
 use Prim.Native.Nat.{ℕ, _≤_, _<_}
 use native.Mathlib.Nat.{le-of-lt, le-of-eq, eq-or-lt-of-le}
-use native.Mathlib.Omega.{arith}
 use lib.Dec.{T, ltb, eqb, ltb→lt, lt→ltb, eqb→eq}
 use lib.Ieee.Fits.{eq→eqb}
 
@@ -50,13 +49,3 @@ le-of-test a b = or-elim (ltb a b) (eqb a b) (λ t. le-of-lt (ltb→lt a b t)) (
 
 pub test-of-le : (a b : ℕ) → a ≤ b → T (ltb a b || eqb a b)
 test-of-le a b h = elim (eq-or-lt-of-le h) [ inl e ↦ or-right (ltb a b) (eqb a b) (eq→eqb e) | inr l ↦ or-left (ltb a b) (eqb a b) (lt→ltb a b l) ]
-
--- by contradiction
-pub le-by : {a b : ℕ} → (b < a → ⊥) → a ≤ b
-le-by {a} {b} f = omega (arith, f)
-
-pub lt-by : {a b : ℕ} → (b ≤ a → ⊥) → a < b
-lt-by {a} {b} f = omega (arith, f)
-
-pub eq-by : {a b : ℕ} → (a < b → ⊥) → (b < a → ⊥) → a ≡ b
-eq-by {a} {b} f g = omega (arith, f, g)

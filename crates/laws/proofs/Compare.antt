@@ -70,7 +70,7 @@ unfolding le
 le-values x y s t a c b d C D v w = ap (λ z. z || eq x y) (lt-values x y s t a c b d C D v w) ∙ ap (λ z. below s (a * d) t (b * c) || z) (eq-values x y s t a c b d C D v w)
 
 -- ---- in units, with the sign clear: as the numbers of units do
-lt-units-signed : (x y : Float) (s t : Bool) (a b : ℕ) → Units x s a → Units y t b → lt x y ≡ below s a t b
+pub lt-units-signed : (x y : Float) (s t : Bool) (a b : ℕ) → Units x s a → Units y t b → lt x y ≡ below s a t b
 lt-units-signed x y s t a b v w = lt-values x y s t a (2 ^ 1074) b (2 ^ 1074) (pow-pos 1074) (pow-pos 1074) v w ∙ below-ratio s t (a * 2 ^ 1074) (b * 2 ^ 1074) a b 1 (2 ^ 1074) (pow-pos 0) (pow-pos 1074) (mul-one (a * 2 ^ 1074)) (mul-one (b * 2 ^ 1074))
 
 pub lt-units : (x y : Float) (a b : ℕ) → Units x false a → Units y false b → lt x y ≡ ltb a b

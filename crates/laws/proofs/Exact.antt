@@ -14,6 +14,7 @@ use lib.Ieee.Fits.{round-fits, down-pos}
 use lib.Ieee.Nearest.{div-same}
 use lib.Ieee.Scale.{finite}
 use Rattle.laws.specs.Units.{Units, sign, unitsOf}
+use Rattle.laws.proofs.Numbers.{sub-add}
 use Rattle.laws.proofs.Order.{lt-le-trans, le-lt-trans}
 use Rattle.laws.proofs.Units.{Form, form, own-units, units-are, finite-of-units, rescale, same-float, mul-units}
 
@@ -92,7 +93,7 @@ div-power (fin false m e) n i h k v =
     rescale (round binary64 false (m * up e * 1) (down e * 2 ^ suc i)) false (m * up e * 1) (down e * 2 ^ suc i) n (2 ^ suc i) (mul-pos (down-pos e) (pow-pos (suc i))) (regroup (m * up e) (down e) (2 ^ suc i) (v .1))
     (round-exact binary64 false (m * up e * 1) (down e * 2 ^ suc i) n (1074 - suc i) (mul-pos (down-pos e) (pow-pos (suc i))) h
     (lt-of-le-of-lt (mul-le-mul-right (2 ^ (1074 - suc i)) (le-of-lt h)) (small (1074 - suc i) (less i)))
-    (exact (m * up e) (down e) (2 ^ 1074) (2 ^ (1074 - suc i)) (2 ^ suc i) (v .1) (ap (λ z. 2 ^ z) (back i k) ∙ pow-add 2 (1074 - suc i) (suc i))))
+    (exact (m * up e) (down e) (2 ^ 1074) (2 ^ (1074 - suc i)) (2 ^ suc i) (v .1) (ap (λ z. 2 ^ z) (sub-add 1074 (suc i) k) ∙ pow-add 2 (1074 - suc i) (suc i))))
   where
     regroup : (u d K : ℕ) → u * 1 ≡ n * d → n * (d * K) ≡ u * 1 * K
     regroup u d K p = omega (arith, ap (λ z. z * K) p)
@@ -105,9 +106,6 @@ div-power (fin false m e) n i h k v =
       where
         room : (j : ℕ) → j ≤ 1074 → 53 + j < 2098
         room j l = omega arith
-
-    back : (i : ℕ) → suc i ≤ 1074 → 1074 ≡ 1074 - suc i + suc i
-    back i k = omega arith
 
     exact : (u d L J K : ℕ) → u * 1 ≡ n * d → L ≡ J * K → u * 1 * L ≡ n * J * (d * K)
     exact u d L J K p q = omega (arith, ap (λ z. z * L) p, ap (λ z. n * d * z) q)

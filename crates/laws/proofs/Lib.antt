@@ -4,6 +4,7 @@ pub mod Compare
 pub mod Error
 pub mod Exact
 pub mod Fold
+pub mod Numbers
 pub mod Order
 pub mod Pattern
 pub mod Ratio

@@ -18,6 +18,7 @@ use Rattle.laws.specs.Units.{Units, sign, unitsOf}
 use Rattle.laws.proofs.Bools.{or-left, le-of-test, test-of-le}
 use Rattle.laws.proofs.Compare.{le-units, lt-units}
 use Rattle.laws.proofs.Error.{in-range, round-value, round-at-most, round-at-least}
+use Rattle.laws.proofs.Numbers.{sub-add}
 use Rattle.laws.proofs.Units.{own-units, units-are, finite-of-units, rescale, mul-units, div-units, neg-units, SumOf, add-rounding}
 
 pub units-small : {p q : ℕ} {x : Float} → Small p q x → Units x (sign x) (unitsOf x)
@@ -28,10 +29,7 @@ units-least {x = x} h = own-units x (h .held) (h .number)
 
 -- ---- the laws on `round`. 2 ^ p / 2 ^ q is 2 ^ (p + 1074 - q) units
 exponent : (p q : ℕ) → q ≤ p + 1074 → 2 ^ p * 2 ^ 1074 ≡ 2 ^ (p + 1074 - q) * 2 ^ q
-exponent p q h = sym (pow-add 2 p 1074) ∙ ap (λ i. 2 ^ i) (back (p + 1074) q h) ∙ pow-add 2 (p + 1074 - q) q
-  where
-    back : (a b : ℕ) → b ≤ a → a ≡ a - b + b
-    back a b h = omega arith
+exponent p q h = sym (pow-add 2 p 1074) ∙ ap (λ i. 2 ^ i) (sub-add (p + 1074) q h) ∙ pow-add 2 (p + 1074 - q) q
 
 power-lt : (p q : ℕ) → p < q + 1024 → q ≤ p + 1074 → 1 * 2 ^ (p + 1074 - q) < 2 ^ 2098
 power-lt p q h k = subst (λ t. t < 2 ^ 2098) (sym (one-mul (2 ^ (p + 1074 - q)))) (pow-lt (go p q h k))

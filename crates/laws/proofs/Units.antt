@@ -2,7 +2,7 @@
 use mathlib.Core.Path.{_≡_, refl, sym, ap, _∙_, subst}
 use mathlib.Core.Bool.{Bool, true, false, not, _&&_, cond, true≢false}
 use Prim.Native.Nat.{ℕ, zero, suc, _+_, _*_, _-_, _^_, _/_, _%_, _≤_, _<_}
-use native.Mathlib.Nat.{not-le-of-lt, mul-pos, mul-one, one-mul, zero-mul, mul-comm, mul-assoc, mul-right-comm, mul-div-cancel, zero-div, lt-irrefl, eq-of-mul-eq-mul-right, zero-lt-suc, le-refl, le-of-eq, mul-sub, mul-lt-mul-of-pos-right, lt-of-mul-lt-mul-right}
+use native.Mathlib.Nat.{not-le-of-lt, mul-pos, mul-one, one-mul, zero-mul, mul-comm, mul-assoc, mul-right-comm, mul-div-cancel, zero-div, lt-irrefl, eq-of-mul-eq-mul-right, zero-lt-suc, le-refl, le-of-eq, mul-lt-mul-of-pos-right, lt-of-mul-lt-mul-right}
 use native.Mathlib.Omega.{arith}
 use lib.IntN.{ℤ, pos, negsuc}
 use lib.Arith.{le→nltb}
@@ -15,7 +15,7 @@ use lib.Ieee.Fits.{and-l, and-r, up-pos, down-pos}
 use lib.Ieee.Positive.{first-pos}
 use lib.Ieee.Scale.{round-same, finite}
 use Rattle.laws.specs.Units.{Units, sign, unitsOf}
-use Rattle.laws.proofs.Bools.{le-by}
+use Rattle.laws.proofs.Numbers.{le-by, sub-add, sub-mul}
 
 -- ---- the form of an f64
 -- what `fits` says of a number that is not zero
@@ -31,10 +31,7 @@ small-of-fits s m e t =
 -- up e / down e in units of 2 ^ - l is a power of two, where l is large enough
 power-of-exponent : (l : ℕ) (e : ℤ) → down e ≤ 2 ^ l → (j : ℕ) × (up e * 2 ^ l ≡ 2 ^ j * down e)
 power-of-exponent l (pos k) h = (k + l, sym (pow-add 2 k l) ∙ sym (mul-one (2 ^ (k + l))))
-power-of-exponent l (negsuc k) h = (l - suc k, one-mul (2 ^ l) ∙ ap (λ x. 2 ^ x) (back l (suc k) (le-by (λ g. not-le-of-lt (pow-lt g) h))) ∙ pow-add 2 (l - suc k) (suc k))
-  where
-    back : (l j : ℕ) → j ≤ l → l ≡ l - j + j
-    back l j h = omega arith
+power-of-exponent l (negsuc k) h = (l - suc k, one-mul (2 ^ l) ∙ ap (λ x. 2 ^ x) (sub-add l (suc k) (le-by (λ g. not-le-of-lt (pow-lt g) h))) ∙ pow-add 2 (l - suc k) (suc k))
 
 -- q * 2 ^ j units, with a q below 2 ^ 53
 pub record Form (x : Float) : Type 0 where
@@ -129,9 +126,6 @@ cross-add x d y g a b L h k = omega (arith, ap (λ t. t * g) h, ap (λ t. t * d)
 cross-sub : (x d y g a b L : ℕ) → x * L ≡ a * d → y * L ≡ b * g → (x * g - y * d) * L ≡ (a - b) * (d * g)
 cross-sub x d y g a b L h k = sub-mul (x * g) (y * d) L ∙ join (x * g * L) (y * d * L) (a * (d * g)) (b * (d * g)) (omega (arith, ap (λ t. t * g) h)) (omega (arith, ap (λ t. t * d) k)) ∙ sym (sub-mul a b (d * g))
   where
-    sub-mul : (a b c : ℕ) → (a - b) * c ≡ a * c - b * c
-    sub-mul a b c = mul-comm (a - b) c ∙ mul-sub c a b ∙ ap (λ k. k - c * b) (mul-comm c a) ∙ ap (λ k. a * c - k) (mul-comm c b)
-
     join : (p q r s : ℕ) → p ≡ r → q ≡ s → p - q ≡ r - s
     join p q r s e f = omega arith
 

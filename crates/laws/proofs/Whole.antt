@@ -10,7 +10,7 @@ use lib.Dec.{T, isLe, isEq, eqb, leb→le, nleb→lt, eqb→eq, eqb-refl}
 use lib.Ieee.{nearest}
 use lib.Ieee.Nearest.{closest}
 use Rattle.laws.specs.Rounding.{NearestWhole}
-use Rattle.laws.proofs.Bools.{le-by, eq-by}
+use Rattle.laws.proofs.Numbers.{le-by, eq-by}
 
 abbrev Compared : Ordering → ℕ → ℕ → Type 0
 Compared Ordering·lt a b = a < b

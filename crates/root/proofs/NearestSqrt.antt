@@ -13,7 +13,7 @@ use lib.Ieee.Exact.{units-val}
 use lib.Ieee.Fits.{odd-fits}
 use lib.Ieee.Scale.{finite}
 use Rattle.laws.specs.Units.{Units, sign, unitsOf}
-use Rattle.laws.proofs.Bools.{le-by, eq-by}
+use Rattle.laws.proofs.Numbers.{le-by, eq-by, sub-add}
 use Rattle.laws.proofs.Units.{Form, form, units-are, units-pos, same-float, finite-of-units}
 use Rattle.root.specs.Root.{NearestRoot, isqrt}
 use Rattle.root.specs.Sqrt.{places, digits, sqrt, Nearest, IsSqrt}
@@ -73,10 +73,7 @@ multiple : (q j k : ℕ) → q < 2 ^ 53 → ((c : ℕ) × (q * 2 ^ j ≡ c * 2 ^
 multiple q j k h = go (leb k j) (leb→le k j) (nleb→lt k j)
   where
     go : (b : Bool) → (T b → k ≤ j) → (T (not b) → j < k) → ((c : ℕ) × (q * 2 ^ j ≡ c * 2 ^ k)) ⊎ (q * 2 ^ j < 2 ^ 52 * 2 ^ k)
-    go true f g = inl (q * 2 ^ (j - k), ap (λ i. q * 2 ^ i) (back j k (f tt)) ∙ ap (λ t. q * t) (pow-add 2 (j - k) k) ∙ sym (mul-assoc q (2 ^ (j - k)) (2 ^ k)))
-      where
-        back : (j k : ℕ) → k ≤ j → j ≡ j - k + k
-        back j k h = omega arith
+    go true f g = inl (q * 2 ^ (j - k), ap (λ i. q * 2 ^ i) (sub-add j k (f tt)) ∙ ap (λ t. q * t) (pow-add 2 (j - k) k) ∙ sym (mul-assoc q (2 ^ (j - k)) (2 ^ k)))
     go false f g = inr (lt-of-lt-of-le (mul-lt-mul-of-pos-right h (pow-pos j)) (twice (2 ^ j) (2 ^ k) (rw (pow-add 2 1 j) at (pow-mono {i = 1 + j} {j = k} (one j k (g tt))))))
       where
         one : (j k : ℕ) → j < k → 1 + j ≤ k
@@ -215,7 +212,7 @@ found q j n p f e = go (size (n * 2 ^ 1074)) (size-lt (n * 2 ^ 1074)) (size-reac
         let b : z ≤ 106 + (k + k) = omega arith in
         let c : k + k ≤ j + 1074 = omega arith in
         let s = shape (n * 2 ^ 1074) k z lt (ge (z - 1) (omega arith)) a b in
-        let v : n * 2 ^ 1074 ≡ q * 2 ^ (j + 1074 - (k + k)) * (2 ^ k * 2 ^ k) = is ∙ ap (λ t. q * 2 ^ t) (back (j + 1074) (k + k) c) ∙ ap (λ t. q * t) (pow-add 2 (j + 1074 - (k + k)) (k + k)) ∙ sym (mul-assoc q (2 ^ (j + 1074 - (k + k))) (2 ^ (k + k))) ∙ ap (λ t. q * 2 ^ (j + 1074 - (k + k)) * t) (pow-add 2 k k) in
+        let v : n * 2 ^ 1074 ≡ q * 2 ^ (j + 1074 - (k + k)) * (2 ^ k * 2 ^ k) = is ∙ ap (λ t. q * 2 ^ t) (sub-add (j + 1074) (k + k) c) ∙ ap (λ t. q * t) (pow-add 2 (j + 1074 - (k + k)) (k + k)) ∙ sym (mul-assoc q (2 ^ (j + 1074 - (k + k))) (2 ^ (k + k))) ∙ ap (λ t. q * 2 ^ (j + 1074 - (k + k)) * t) (pow-add 2 k k) in
         record {
           M = q * 2 ^ (j + 1074 - (k + k));
           is = v;
@@ -225,9 +222,6 @@ found q j n p f e = go (size (n * 2 ^ 1074)) (size-lt (n * 2 ^ 1074)) (size-reac
       where
         one : (t : ℕ) → t ≤ q * t
         one t = omega (arith, mul-le-mul-right t p)
-
-        back : (a b : ℕ) → b ≤ a → a ≡ a - b + b
-        back a b h = omega arith
 
 pub parts : (q j n : ℕ) → 0 < q → q < 2 ^ 53 → n ≡ q * 2 ^ j → (M : ℕ) × Parts n M (digits n) (places n)
 unfolding digits

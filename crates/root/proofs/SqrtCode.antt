@@ -13,7 +13,8 @@ use lib.Ieee.Bits.{ofBits-fits}
 use lib.Ieee.Fits.{down-pos, up-pos, and-l, and-i, eq→eqb}
 use lib.Ieee.Scale.{finite}
 use Rattle.laws.specs.Units.{Units, sign}
-use Rattle.laws.proofs.Bools.{holds, fails, le-by, lt-by}
+use Rattle.laws.proofs.Bools.{holds, fails}
+use Rattle.laws.proofs.Numbers.{le-by, lt-by}
 use Rattle.laws.proofs.Pattern.{pattern-of-digits, pattern-lt, normal-units, subnormal-units, units-above-zero}
 use Rattle.laws.proofs.Units.{finite-of-units}
 use Rattle.root.specs.Digits.{Remainder}

@@ -5,7 +5,7 @@ use Prim.Native.Nat.{ℕ, zero, suc, _+_, _*_, _^_, _/_, _≤_, _<_}
 use native.Mathlib.Nat.{pow-succ', mul-le-mul}
 use native.Mathlib.Omega.{arith}
 use lib.Dec.{T, leb, leb→le, nleb→lt}
-use Rattle.laws.proofs.Bools.{eq-by}
+use Rattle.laws.proofs.Numbers.{eq-by}
 use Rattle.root.specs.Root.{IsRoot, NearestRoot, bits, isqrt}
 
 -- ---- the whole part

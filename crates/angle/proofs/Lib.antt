@@ -1,0 +1,3 @@
+-- Laws on the folds.
+pub mod Branches
+pub mod Range

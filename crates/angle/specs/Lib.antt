@@ -1,0 +1,2 @@
+-- The folds of directions.
+pub mod Fold
