@@ -1,0 +1,4 @@
+-- Laws on times.
+pub mod Branches
+pub mod Nanoseconds
+pub mod Seconds

@@ -1,0 +1,2 @@
+-- Times and their conversions.
+pub mod Clock
