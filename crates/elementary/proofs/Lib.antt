@@ -1,0 +1,3 @@
+-- Laws on refusals and refusing functions.
+pub mod Answers
+pub mod Listed

@@ -1,0 +1,21 @@
+-- The refusing functions: inside the domain the number, outside it refusal number 1.
+use mathlib.Core.Bool.{cond, _&&_}
+use Prim.Native.Nat.{ℕ}
+use lib.Ieee.{Float, nan}
+use Rattle.root.specs.Hypot.{hypot, inDomain}
+use Rattle.elementary.specs.Refusal.{numberOf}
+use Rattle.elementary.specs.declared.error.Refusal.the-variants.{Angle}
+use Rattle.elementary.specs.declared.checked.Real.{Real}
+use Rattle.elementary.specs.declared.checked.Real.the-variants.{Number, Refused}
+
+-- document 01's number of an answer, 0 where there is a value, and that value
+abbrev pub refusalIn : Real → ℕ
+refusalIn (Number x) = 0
+refusalIn (Refused r) = numberOf r
+
+abbrev pub valueIn : Real → Float
+valueIn (Number x) = x
+valueIn (Refused r) = nan
+
+unfoldable pub hypotAnswer : Float → Float → Real
+hypotAnswer x y = cond (inDomain x && inDomain y) (Number (hypot x y)) (Refused Angle)

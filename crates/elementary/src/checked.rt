@@ -1,0 +1,21 @@
+// The elementary functions that have a domain, refusing with number 1 outside it.
+ghost use mathlib.Core.Path.{_≡_};
+ghost use Rattle.elementary.specs.Checked.{hypotAnswer};
+use crate::error::Refusal;
+
+// A number, or why there is none.
+pub enum Real {
+    Number(f64),
+    Refused(Refusal),
+}
+
+// The hypotenuse over two finite sides of at most 2^500 in size.
+pub fn hypot(x: f64, y: f64) -> Real
+    ensures { λ r. ⌜ r ≡ hypotAnswer x y ⌝ }
+{
+    let h = root::hypot(x, y);
+    if h == h {
+        return Real::Number(h);
+    }
+    Real::Refused(Refusal::Angle)
+}

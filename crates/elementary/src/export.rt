@@ -1,0 +1,19 @@
+// The elementary functions for C, with NaN in place of refusal number 1. Each contract has the equation with the whole-number
+// method and what is proved of it.
+ghost use mathlib.Core.Path.{_≡_};
+ghost use Rattle.root.specs.Sqrt.{sqrt, IsSqrt};
+ghost use Rattle.root.specs.Hypot.{hypot, IsHypot};
+
+#[no_mangle]
+pub extern "C" fn elementary_sqrt(x: f64) -> f64
+    ensures { λ r. ⌜ (r ≡ sqrt x) × IsSqrt x r ⌝ }
+{
+    root::sqrt(x)
+}
+
+#[no_mangle]
+pub extern "C" fn elementary_hypot(x: f64, y: f64) -> f64
+    ensures { λ r. ⌜ (r ≡ hypot x y) × IsHypot x y r ⌝ }
+{
+    root::hypot(x, y)
+}
