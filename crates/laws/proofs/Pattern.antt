@@ -20,8 +20,11 @@ use Rattle.laws.proofs.Compare.{lt-units}
 use Rattle.laws.proofs.Units.{Form, form}
 
 -- ---- what is no NaN
+pub no-nan-size : (b : ℕ) → b % 2 ^ 63 ≤ 2047 * 2 ^ 52 → T (not (nanBits binary64 b))
+no-nan-size b h = subst (λ t. T (not t)) (sym (nanBits-above binary64 b)) (le→nltb (2047 * 2 ^ 52) (b % 2 ^ 63) h)
+
 pub no-nan-bits : (b : ℕ) → b < 2047 * 2 ^ 52 → T (not (nanBits binary64 b))
-no-nan-bits b h = subst (λ t. T (not t)) (sym (nanBits-above binary64 b)) (le→nltb (2047 * 2 ^ 52) (b % 2 ^ 63) (omega arith))
+no-nan-bits b h = no-nan-size b (omega arith)
 
 pub no-nan-of-eq : (x : Float) → eq x x ≡ true → T (not (isNan x))
 unfolding eq isNan

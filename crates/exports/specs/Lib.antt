@@ -1,0 +1,2 @@
+-- What the exports hand over of a time.
+pub mod Time

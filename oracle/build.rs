@@ -1,0 +1,49 @@
+//! Builds the port's archives and lays the listed Rust files ready, unchanged.
+//!
+//! The Rust is read from KINAVIS_SRC, or from `../shared/docs/src` beside the repository, and copied into OUT_DIR; none of
+//! it is kept here.
+
+use std::path::{Path, PathBuf};
+use std::process::Command;
+use std::{env, fs};
+
+/// The archives with the port's C exports.
+const ARCHIVES: [&str; 2] = ["elementary", "exports"];
+
+/// The listed files in use: module name and path below the sources' folder.
+const LISTED: [(&str, &str); 1] = [("math", "crates/kinavis-kernel/src/math.rs")];
+
+fn main() {
+    let root = PathBuf::from(env::var("CARGO_MANIFEST_DIR").unwrap()).join("..");
+    build_archives(&root);
+    copy_listed(&root);
+}
+
+fn build_archives(root: &Path) {
+    for name in ARCHIVES {
+        let status = Command::new("rt")
+            .args(["staticlib", name])
+            .current_dir(root)
+            .status()
+            .expect("`rt` builds the port's archives");
+        assert!(status.success(), "rt staticlib {name} failed");
+        println!("cargo:rustc-link-lib=static={name}");
+    }
+    println!("cargo:rustc-link-search=native={}", root.join("target/staticlib").display());
+    println!("cargo:rerun-if-changed={}", root.join("crates").display());
+}
+
+fn copy_listed(root: &Path) {
+    let from = env::var("KINAVIS_SRC").map_or_else(|_| root.join("../shared/docs/src"), PathBuf::from);
+    let out = PathBuf::from(env::var("OUT_DIR").unwrap());
+    let mut joined = String::new();
+    for (module, path) in LISTED {
+        let source = from.join(path);
+        let copy = out.join(format!("{module}.rs"));
+        fs::copy(&source, &copy).unwrap_or_else(|e| panic!("{}: {e} (set KINAVIS_SRC)", source.display()));
+        joined += &format!("#[path = {copy:?}]\n#[allow(dead_code)]\npub mod {module};\n");
+        println!("cargo:rerun-if-changed={}", source.display());
+    }
+    fs::write(out.join("listed.rs"), joined).unwrap();
+    println!("cargo:rerun-if-env-changed=KINAVIS_SRC");
+}

@@ -1,0 +1,44 @@
+//! Times: the port beside the Rust, from one driver in one run.
+
+use std::hint::black_box;
+use std::time::Instant;
+
+use crate::inputs::Random;
+use crate::port;
+
+const COUNT: usize = 4096;
+const ROUNDS: usize = 400;
+
+/// Nanoseconds a call, the best of three runs over the same inputs.
+fn measure(inputs: &[(f64, f64)], f: impl Fn(f64, f64) -> f64) -> f64 {
+    (0..3)
+        .map(|_| {
+            let start = Instant::now();
+            for _ in 0..ROUNDS {
+                for &(x, y) in inputs {
+                    black_box(f(black_box(x), black_box(y)));
+                }
+            }
+            start.elapsed().as_nanos() as f64 / (ROUNDS * inputs.len()) as f64
+        })
+        .fold(f64::INFINITY, f64::min)
+}
+
+fn report(name: &str, inputs: &[(f64, f64)], ours: impl Fn(f64, f64) -> f64, theirs: impl Fn(f64, f64) -> f64) {
+    let (a, b) = (measure(inputs, ours), measure(inputs, theirs));
+    println!("{name:<24} {a:7.1} ns {b:7.1} ns {:6.2}", a / b);
+}
+
+pub fn all() {
+    let mut random = Random::new(7);
+    let pairs: Vec<(f64, f64)> = (0..COUNT).map(|_| (random.unit() * 1000.0, random.unit() * 1000.0 - 500.0)).collect();
+    let wide: Vec<(f64, f64)> = (0..COUNT).map(|_| (random.middling().abs(), random.middling())).collect();
+    println!("function                    port       Rust   ratio");
+    report("sqrt", &pairs, |x, _| port::sqrt(x), |x, _| x.sqrt());
+    report("sqrt, all exponents", &wide, |x, _| port::sqrt(x), |x, _| x.sqrt());
+    report("hypot", &pairs, port::hypot, f64::hypot);
+    report("hypot, all exponents", &wide, port::hypot, f64::hypot);
+    report("wrap360", &pairs, |_, y| port::wrap360(y), |_, y| crate::compare::whole_fold(y));
+    report("wrap180", &pairs, |_, y| port::wrap180(y), |_, y| crate::compare::half_fold(y));
+    report("seconds to nanoseconds", &pairs, |x, _| f64::from(port::time_nanos(x)), |x, _| f64::from(crate::compare::time(x).2));
+}

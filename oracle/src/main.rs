@@ -1,0 +1,33 @@
+//! `oracle compare [N]`: compares each ported function with its reference on N inputs (default 1,000,000).
+//! `oracle vectors`: writes the records and answers that the gate replays.
+//! `oracle bench`: measures the port beside the Rust.
+
+mod bench;
+mod big;
+mod compare;
+mod inputs;
+mod port;
+mod vectors;
+
+/// The listed Rust, unchanged.
+mod listed {
+    include!(concat!(env!("OUT_DIR"), "/listed.rs"));
+}
+
+fn main() {
+    let words: Vec<String> = std::env::args().skip(1).collect();
+    match words.first().map(String::as_str) {
+        Some("compare") => {
+            let count = words.get(1).map_or(1_000_000, |w| w.parse().expect("a number of inputs"));
+            if !compare::all(count) {
+                std::process::exit(1);
+            }
+        }
+        Some("vectors") => vectors::write(),
+        Some("bench") => bench::all(),
+        _ => {
+            eprintln!("oracle compare [N] | vectors | bench");
+            std::process::exit(2);
+        }
+    }
+}

@@ -1,0 +1,36 @@
+//! The port's functions, through their C exports. Each takes every value, so that each call is safe.
+
+macro_rules! exports {
+    ($($rust:ident = $c:ident ( $($arg:ident : $ty:ty),* ) -> $out:ty;)*) => {
+        extern "C" { $(fn $c($($arg: $ty),*) -> $out;)* }
+        $(
+            #[inline]
+            pub fn $rust($($arg: $ty),*) -> $out {
+                // SAFETY: the function is proved for every argument, and keeps nothing.
+                unsafe { $c($($arg),*) }
+            }
+        )*
+    };
+}
+
+exports! {
+    sqrt = elementary_sqrt(x: f64) -> f64;
+    hypot = elementary_hypot(x: f64, y: f64) -> f64;
+    trunc = port_trunc(x: f64) -> f64;
+    round = port_round(x: f64) -> f64;
+    ceil = port_ceil(x: f64) -> f64;
+    to_radians = port_to_radians(x: f64) -> f64;
+    wrap360 = port_wrap360(x: f64) -> f64;
+    wrap180 = port_wrap180(x: f64) -> f64;
+    reciprocal = port_reciprocal(x: f64) -> f64;
+    is_effectively_zero = port_is_effectively_zero(value: f64, scale: f64) -> bool;
+    round_to_i32 = port_round_to_i32(x: f64) -> i32;
+    to_usize = port_to_usize(x: f64) -> usize;
+    time_kind = port_time_kind(seconds: f64) -> u32;
+    time_secs = port_time_secs(seconds: f64) -> u64;
+    time_nanos = port_time_nanos(seconds: f64) -> u32;
+    hours_secs = port_hours_secs(hours: f64) -> u64;
+    hours_nanos = port_hours_nanos(hours: f64) -> u32;
+    hours = port_hours(secs: u64, nanos: u32) -> f64;
+    is_before = port_is_before(secs: u64, nanos: u32, other_secs: u64, other_nanos: u32) -> bool;
+}

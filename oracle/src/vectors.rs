@@ -1,0 +1,116 @@
+//! The records and answers that `elementary_main` replays in the gate.
+
+use std::fs;
+use std::path::Path;
+
+use crate::compare::{half_fold, hypot_input, hypotenuse_holds, time, whole_fold};
+use crate::inputs::{Random, LIMITS};
+use crate::listed::math;
+use crate::port;
+
+/// The pattern that stands for every NaN.
+const NAN: u64 = 0x7ff8_0000_0000_0000;
+
+/// Records for each function.
+const EACH: u64 = 120;
+
+fn pattern(x: f64) -> u64 {
+    if x.is_nan() {
+        NAN
+    } else {
+        x.to_bits()
+    }
+}
+
+/// The Rust's answer to a record.
+fn answer(which: u64, a: u64, b: u64) -> u64 {
+    let (x, y) = (f64::from_bits(a), f64::from_bits(b));
+    let split = |seconds: f64, take_secs: bool| match time(seconds) {
+        (0, secs, nanos) => {
+            if take_secs {
+                secs
+            } else {
+                u64::from(nanos)
+            }
+        }
+        (1, _, _) => u64::MAX,
+        _ => u64::MAX - 1,
+    };
+    let nanos = |b: u64| b % (1 << 32);
+    match which {
+        0 => pattern(x.sqrt()),
+        1 => {
+            // The hypotenuse is the port's own; its answer is checked exactly before it is kept.
+            let r = port::hypot(x, y);
+            assert!(hypotenuse_holds(x, y, r));
+            pattern(r)
+        }
+        2 => pattern(math::abs(x)),
+        3 => pattern(if y.is_nan() { math::abs(x) } else { math::copysign(x, y) }),
+        4 => pattern(math::trunc(x)),
+        5 => pattern(math::round(x)),
+        6 => pattern(math::ceil(x)),
+        7 => pattern(math::to_radians(x)),
+        8 => pattern(math::to_degrees(x)),
+        9 | 12 => pattern(whole_fold(x)),
+        10 => pattern(half_fold(x)),
+        11 => pattern(whole_fold(x + 180.0)),
+        20 => u64::from(math::is_integral(x)),
+        21 => u64::from(math::is_effectively_zero(x, y)),
+        22 => pattern(f64::from(math::round_to_i32(x))),
+        23 => math::to_usize(x) as u64,
+        24 => pattern(math::count_to_f64(a as usize)),
+        25 => u64::from((0.0..=y).contains(&x)),
+        26 => {
+            let r = port::hypot(x, y);
+            if r.is_nan() {
+                1
+            } else {
+                pattern(r)
+            }
+        }
+        27 => split(x, true),
+        28 => split(x, false),
+        29 => split(x * 3600.0, true),
+        30 => split(x * 3600.0, false),
+        31 => pattern((a as f64 + nanos(b) as f64 / 1e9) / 3600.0),
+        32 => u64::from((a, 1) < (b, 2)),
+        33 => u64::from(nanos(b) < 1_000_000_000 && (a, nanos(b)) <= (1 << 53, 0)),
+        _ => unreachable!(),
+    }
+}
+
+/// The arguments of record i of a function.
+fn arguments(which: u64, i: u64, random: &mut Random) -> (u64, u64) {
+    let limit = LIMITS.get(i as usize).copied();
+    let x = limit.unwrap_or_else(|| random.float());
+    match which {
+        1 | 26 => {
+            let (x, y) = hypot_input(if i < 60 { i * 27 } else { i + 100_000 }, random);
+            (x.to_bits(), y.to_bits())
+        }
+        21 => (random.near(x * 1e-12).to_bits(), x.to_bits()),
+        24 => (random.word() >> random.below(64), 0),
+        31 => (random.word() >> random.below(64), random.below(1_000_000_000)),
+        32 => (random.below(3), random.below(3)),
+        33 => ((1 << 53) - 1 + random.below(3), [0, 1, 999_999_999, 1_000_000_000][random.below(4) as usize]),
+        _ => (x.to_bits(), random.float().to_bits()),
+    }
+}
+
+pub fn write() {
+    let folder = Path::new(env!("CARGO_MANIFEST_DIR")).join("../crates/elementary_main");
+    let mut random = Random::new(11);
+    let (mut records, mut answers) = (Vec::new(), String::new());
+    for which in (0..=12).chain(20..=33) {
+        for i in 0..EACH {
+            let (a, b) = arguments(which, i, &mut random);
+            for word in [which, a, b] {
+                records.extend_from_slice(&word.to_le_bytes());
+            }
+            answers += &format!("{:016x}\n", answer(which, a, b));
+        }
+    }
+    fs::write(folder.join("stdin"), records).unwrap();
+    fs::write(folder.join("stdout"), answers).unwrap();
+}
