@@ -8,7 +8,7 @@ use std::process::Command;
 use std::{env, fs};
 
 /// The archives with the port's C exports.
-const ARCHIVES: [&str; 2] = ["elementary", "exports"];
+const ARCHIVES: [&str; 3] = ["elementary", "exports", "exports_time"];
 
 /// The listed files in use: module name and path below the sources' folder.
 const LISTED: [(&str, &str); 1] = [("math", "crates/kinavis-kernel/src/math.rs")];
