@@ -1,0 +1,2 @@
+-- Laws on sine and cosine.
+pub mod Worked

@@ -1,0 +1,88 @@
+// The sums behind the sine and the cosine, in whole units of 2^-58.
+//
+// Angles and values are numbers of units; ONE of them is 1. A product of two is exact up to the cut to a whole unit, the
+// coefficients are cut the same way, and Horner's rule has no division. The error of the sums is a few units: proofs/Values.
+ghost use mathlib.Core.Path.{_≡_};
+ghost use Prim.Native.Nat.{_*_, _/_, _-_, _^_, _≤_};
+ghost use Rattle.series.specs.Taylor.{sineDivisors, cosineDivisors};
+ghost use Rattle.series.specs.Units.{horner, sineUnits, cosineUnits};
+
+// One, in units: 2^58.
+const ONE: u64 = 288230376151711744;
+
+// The half of a number of units: 2^29.
+const HALF: u64 = 536870912;
+
+// The product of a and b, cut to whole units, by halves of 29 bits.
+fn mul58(a: u64, b: u64) -> u64
+    requires { ⌜ (a ≤ 2 ^ 58) × (b ≤ 2 ^ 58) ⌝ }
+    ensures { λ r. ⌜ (r ≡ a * b / 2 ^ 58) × (r ≤ b) ⌝ }
+{
+    let a1 = a / HALF;
+    let a0 = a % HALF;
+    let b1 = b / HALF;
+    let b0 = b % HALF;
+    let middle = a1 * b0 + a0 * b1 + a0 * b0 / HALF;
+    a1 * b1 + middle / HALF
+}
+
+// One step of Horner's rule.
+fn step(z: u64, q: u64, c: u64) -> u64
+    requires { ⌜ (z ≤ 2 ^ 58) × (q ≤ c) × (c ≤ 2 ^ 58) ⌝ }
+    ensures { λ r. ⌜ (r ≡ c - z * q / 2 ^ 58) × (r ≤ c) ⌝ }
+{
+    c - mul58(z, q)
+}
+
+// 1 - z / 3! + z^2 / 5! - ...: the coefficients are ONE / 19!, ONE / 17!, ...; ONE / 21! is no whole unit.
+fn sine_series(z: u64) -> u64
+    requires { ⌜ z ≤ 2 ^ 58 ⌝ }
+    ensures { λ r. ⌜ (r ≡ horner (2 ^ 58) z 1 sineDivisors) × (r ≤ 2 ^ 58) ⌝ }
+{
+    let q8 = step(z, 2, 810);
+    let q7 = step(z, q8, 220414);
+    let q6 = step(z, q7, 46287042);
+    let q5 = step(z, q6, 7220778623);
+    let q4 = step(z, q5, 794285648566);
+    let q3 = step(z, q4, 57188566696768);
+    let q2 = step(z, q3, 2401919801264264);
+    let q1 = step(z, q2, 48038396025285290);
+    step(z, q1, ONE)
+}
+
+// 1 - 2 z / 4! + 2 z^2 / 6! - ...
+fn cosine_series(z: u64) -> u64
+    requires { ⌜ z ≤ 2 ^ 58 ⌝ }
+    ensures { λ r. ⌜ (r ≡ horner (2 ^ 58) z 1 cosineDivisors) × (r ≤ 2 ^ 58) ⌝ }
+{
+    let q7 = step(z, 90, 27551);
+    let q6 = step(z, q7, 6612434);
+    let q5 = step(z, q6, 1203463103);
+    let q4 = step(z, q5, 158857129713);
+    let q3 = step(z, q4, 14297141674192);
+    let q2 = step(z, q3, 800639933754754);
+    let q1 = step(z, q2, 24019198012642645);
+    step(z, q1, ONE)
+}
+
+// The sine of an angle of r units, in units; 0 for an angle above one.
+pub fn sine(r: u64) -> u64
+    ensures { λ s. ⌜ (r ≤ 2 ^ 58 → s ≡ sineUnits (2 ^ 58) r) × (s ≤ 2 ^ 58) ⌝ }
+{
+    if r > ONE {
+        return 0;
+    }
+    let z = mul58(r, r);
+    mul58(r, sine_series(z))
+}
+
+// The cosine of an angle of r units, in units; 0 for an angle above one.
+pub fn cosine(r: u64) -> u64
+    ensures { λ s. ⌜ (r ≤ 2 ^ 58 → s ≡ cosineUnits (2 ^ 58) r) × (s ≤ 2 ^ 58) ⌝ }
+{
+    if r > ONE {
+        return 0;
+    }
+    let z = mul58(r, r);
+    ONE - mul58(z, cosine_series(z)) / 2
+}
