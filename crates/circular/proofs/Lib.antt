@@ -1,2 +1,6 @@
 -- Laws on sine and cosine.
+pub mod Bound
+pub mod Division
+pub mod Steps
+pub mod Symmetry
 pub mod Worked

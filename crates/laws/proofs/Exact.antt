@@ -5,7 +5,7 @@ use Prim.Native.Nat.{ℕ, zero, suc, _+_, _*_, _-_, _^_, _/_, _≤_, _<_, min}
 use native.Mathlib.Nat.{le-of-lt, lt-of-le-of-lt, mul-pos, mul-one, one-mul, mul-comm, mul-assoc, mul-right-comm, mul-le-mul-right, eq-of-mul-eq-mul-right}
 use native.Mathlib.Omega.{arith}
 use lib.IntN.{pos, negsuc}
-use lib.Dec.{T, lit<}
+use lib.Dec.{T, lt→ltb, lit<}
 use lib.Pow.{pow-add, pow-pos}
 use lib.Ieee.{Float, nan, inf, fin, binary64, fits, up, down, mul, round, unlike, ofInt, toUnsigned, lt, le, eq}
 use lib.Ieee.Back.{round-whole}
@@ -14,6 +14,7 @@ use lib.Ieee.Fits.{round-fits, down-pos}
 use lib.Ieee.Nearest.{div-same}
 use lib.Ieee.Scale.{finite}
 use Rattle.laws.specs.Units.{Units, sign, unitsOf}
+use Rattle.laws.proofs.Compare.{lt-values}
 use Rattle.laws.proofs.Numbers.{sub-add}
 use Rattle.laws.proofs.Order.{lt-le-trans, le-lt-trans}
 use Rattle.laws.proofs.Units.{Form, form, own-units, units-are, finite-of-units, rescale, same-float, mul-units}
@@ -120,6 +121,16 @@ to-unsigned w (fin false m e) a c C v h = at (m * up e / down e) (a / c) (2 ^ w)
   where
     at : (u v w : ℕ) → u ≡ v → v < w → min u (w - 1) ≡ v
     at u v w e h = omega arith
+
+-- what the cast to a u64 asks, of a value below 2 ^ 64
+pub castable-value : (y : Float) (a c : ℕ) → 0 < c → HasValue y false a c → a < 2 ^ 64 * c → T (lt (fin true 1 (pos 0)) y) × T (lt y (fin false 1 (pos 64)))
+castable-value y a c C v h = (
+  subst T (sym (lt-values (fin true 1 (pos 0)) y true false 1 1 a c (pow-pos 0) C (refl, refl) v)) (lt→ltb 0 (1 * c + a * 1) (positive a c C)),
+  subst T (sym (lt-values y (fin false 1 (pos 64)) false false a c (2 ^ 64) 1 C (pow-pos 0) v (refl, refl))) (lt→ltb (a * 1) (2 ^ 64 * c) (subst (λ n. n < 2 ^ 64 * c) (sym (mul-one a)) h)),
+)
+  where
+    positive : (a c : ℕ) → 0 < c → 0 < 1 * c + a * 1
+    positive a c C = omega arith
 
 -- what the cast to a u64 asks, from tests at 0 and at a limit below 2 ^ 64
 pub castable : (x y : Float) → T (le (fin false 0 (pos 0)) x) → T (le x y) → T (lt y (fin false 1 (pos 64))) → T (lt (fin true 1 (pos 0)) x) × T (lt x (fin false 1 (pos 64)))

@@ -18,7 +18,7 @@ use lib.Ieee.Scale.{finite, round-same}
 use Rattle.laws.specs.Units.{Units, unitsOf}
 use Rattle.laws.proofs.Bools.{holds, fails, refuted}
 use Rattle.laws.proofs.Compare.{lt-values}
-use Rattle.laws.proofs.Exact.{finite-of-value, value-units, round-own, whole-value, mul-power, to-unsigned}
+use Rattle.laws.proofs.Exact.{castable-value, finite-of-value, value-units, round-own, whole-value, mul-power, to-unsigned}
 use Rattle.laws.proofs.Order.{lt-not-self}
 use Rattle.laws.proofs.Units.{rescale, units-are, small-of-fits, add-units}
 use Rattle.math.specs.Sign.{sign, abs, copysign}
@@ -37,19 +37,6 @@ size-lt m e p = go (m * up e) (down e) (ltb→lt (m * up e * 1) (1 * 2 ^ 52 * do
     go : (a c : ℕ) → a * 1 < 1 * 2 ^ 52 * c → a < 2 ^ 52 * c
     go a c h = omega arith
 
--- what the cast asks of a float that has its sign clear and is at most 2 ^ 53
-pub castable-small : (y : Float) (a c : ℕ) → 0 < c → HasValue y false a c → a ≤ 2 ^ 53 * c → T (lt (fin true 1 (pos 0)) y) × T (lt y (fin false 1 (pos 64)))
-castable-small y a c C v h = (
-  subst T (sym (lt-values (fin true 1 (pos 0)) y true false 1 1 a c (pow-pos 0) C (refl, refl) v)) (lib.Dec.lt→ltb 0 (1 * c + a * 1) (positive a c C)),
-  subst T (sym (lt-values y (fin false 1 (pos 64)) false false a c (2 ^ 64) 1 C (pow-pos 0) v (refl, refl))) (lib.Dec.lt→ltb (a * 1) (2 ^ 64 * c) (below a c C h)),
-)
-  where
-    positive : (a c : ℕ) → 0 < c → 0 < 1 * c + a * 1
-    positive a c C = omega arith
-
-    below : (a c : ℕ) → 0 < c → a ≤ 2 ^ 53 * c → a * 1 < 2 ^ 64 * c
-    below a c C h = omega arith
-
 -- a float whose absolute value is below 2 ^ 52, with its parts
 pub record Fraction (x : Float) : Type 0 where
   pub a : ℕ
@@ -66,9 +53,9 @@ fraction (inf s) p = absurd (holds p)
 fraction (fin s m e) p = record { a = m * up e; c = down e; positive = down-pos e; value = (refl, refl); below = size-lt m e p; rounding = λ w. refl }
 
 abs-castable : (x : Float) → lt (abs x) allWhole ≡ true → T (lt (fin true 1 (pos 0)) (abs x)) × T (lt (abs x) (fin false 1 (pos 64)))
-abs-castable x p = let f = fraction x p in castable-small (abs x) (f .a) (f .c) (f .positive) (f .value) (wide (f .a) (f .c) (f .below))
+abs-castable x p = let f = fraction x p in castable-value (abs x) (f .a) (f .c) (f .positive) (f .value) (wide (f .a) (f .c) (f .below))
   where
-    wide : (a c : ℕ) → a < 2 ^ 52 * c → a ≤ 2 ^ 53 * c
+    wide : (a c : ℕ) → a < 2 ^ 52 * c → a < 2 ^ 64 * c
     wide a c h = omega arith
 
 quotient-lt : (a c d : ℕ) → 0 < c → a < d * c → a / c < d
@@ -157,9 +144,9 @@ module _ (x : Float) (t : T (fits binary64 x)) (p : lt (abs x) allWhole ≡ true
           go u a c L h l = omega arith
 
   round-castable : T (lt (fin true 1 (pos 0)) (mul binary64 (abs x) (fin false 1 (pos 1)))) × T (lt (mul binary64 (abs x) (fin false 1 (pos 1))) (fin false 1 (pos 64)))
-  round-castable = castable-small (mul binary64 (abs x) (fin false 1 (pos 1))) (2 * f .a) (f .c) (f .positive) doubled (wide (f .a) (f .c) (f .below))
+  round-castable = castable-value (mul binary64 (abs x) (fin false 1 (pos 1))) (2 * f .a) (f .c) (f .positive) doubled (wide (f .a) (f .c) (f .below))
     where
-      wide : (a c : ℕ) → a < 2 ^ 52 * c → 2 * a ≤ 2 ^ 53 * c
+      wide : (a c : ℕ) → a < 2 ^ 52 * c → 2 * a < 2 ^ 64 * c
       wide a c h = omega arith
 
   twice-lt : 2 * f .a / f .c < 2 ^ 53

@@ -10,7 +10,7 @@ use native.Mathlib.Omega.{arith}
 use lib.Dec.{T, leb, ltb, ltb→lt, nltb→le, lit<, lit≤}
 use lib.Ieee.{unlike}
 use Rattle.series.specs.Taylor.{num, den, sineDivisors, cosineDivisors, sineNum, sineDen, cosineNum, cosineDen}
-use Rattle.series.specs.Angle.{halfPi, whole, distance, quarters, Signed, even, negative, turned, reduced, gap, Close}
+use Rattle.series.specs.Angle.{halfPi, whole, distance, quarters, Signed, even, negative, turned, reduced, negated, gap, Close}
 use Rattle.series.specs.Units.{horner, square, sineUnits, cosineUnits, one, halfPiUnits, removed, rest, turnedMinus, turnedUnits}
 use Rattle.series.proofs.Near.{Near, near-weaken}
 use Rattle.series.proofs.Horner.{AtLeast, num-le-den, horner-le}
@@ -23,7 +23,7 @@ unfolding den AtLeast
 den-pos k zd [] hk hz a = omega arith
 den-pos k zd (c ∷ cs) hk hz a = mul-pos (omega (arith, a .0)) (mul-pos hz (den-pos k zd cs hk hz (a .1)))
 
-sine-proper : (d : ℕ) → 0 < d → 0 < sineDen d
+pub sine-proper : (d : ℕ) → 0 < d → 0 < sineDen d
 unfolding sineDen
 sine-proper d h = mul-pos h (den-pos 6 (d * d) sineDivisors (omega arith) (mul-pos h h) sin-at-least)
 
@@ -105,15 +105,19 @@ reduced-by-units x a b hb same few near = record { near = distances; small = res
     sides false true e f n = sides-differ one near multiple (nltb→le x (quarters x one * halfPiUnits) (subst (λ w. T (not w)) e tt)) (le-of-lt (ltb→lt (a * whole) (k * halfPi * b) (subst T f tt)))
 
 -- a sine is at most its angle, in units and exactly
-sine-below : (R n d e : ℕ) → 5 * R ≤ 4 * one → R * d + n * one ≤ e * d → sineUnits one R * sineDen d + sineNum n d * one ≤ e * sineDen d
-unfolding sineUnits sineNum sineDen
-sine-below R n d e hR h = go one (horner one (square one R) 1 sineDivisors) (num (n * n) (d * d) sineDivisors) (den (d * d) sineDivisors) (R * horner one (square one R) 1 sineDivisors / one) (div-le-of-le-mul one (turn _ (mul-le-mul-left R (horner-le one (square one R) 1 sineDivisors)))) (num-le-den (n * n) (d * d) sineDivisors) h
+sine-most : (R : ℕ) → sineUnits one R ≤ R
+unfolding sineUnits
+sine-most R = div-le-of-le-mul one (turn (horner one (square one R) 1 sineDivisors) (mul-le-mul-left R (horner-le one (square one R) 1 sineDivisors)))
   where
     turn : (p : ℕ) → R * p ≤ R * (one / 1) → R * p ≤ one * R
     turn p k = omega arith
 
-    go : (S H N D P : ℕ) → P ≤ R → N ≤ D → R * d + n * S ≤ e * d → P * (d * D) + n * N * S ≤ e * (d * D)
-    go S H N D P k l m = omega (arith, mul-le-mul-right (d * D) k, mul-le-mul-left (n * S) l, mul-le-mul-right D m)
+sine-below : (R n d e : ℕ) → R * d + n * one ≤ e * d → sineUnits one R * sineDen d + sineNum n d * one ≤ e * sineDen d
+unfolding sineNum sineDen
+sine-below R n d e h = go one (num (n * n) (d * d) sineDivisors) (den (d * d) sineDivisors) (sineUnits one R) (sine-most R) (num-le-den (n * n) (d * d) sineDivisors) h
+  where
+    go : (S N D P : ℕ) → P ≤ R → N ≤ D → R * d + n * S ≤ e * d → P * (d * D) + n * N * S ≤ e * (d * D)
+    go S N D P k l m = omega (arith, mul-le-mul-right (d * D) k, mul-le-mul-left (n * S) l, mul-le-mul-right D m)
 
 -- the value with its sign
 pub turned-close : (more x a b : ℕ) → quarters x one ≡ quarters a b → Reduced x a b → Close one (turnedMinus more x) (turnedUnits more x) (reduced more a b) 23
@@ -137,7 +141,7 @@ turned-close more x a b same r = record { proper = proper (even q); close = rw s
     proper false = cosine-proper d (r .proper)
 
     far : (s t : Bool) → rest x * d + n * one ≤ 11 * d → gap s (sineUnits one (rest x) * sineDen d) t (sineNum n d * one) ≤ 23 * sineDen d
-    far s t h = le-trans (gap-le s t _ _) (le-trans (sine-below (rest x) n d 11 (r .small) h) (mul-le-mul-right (sineDen d) (lit≤ tt)))
+    far s t h = le-trans (gap-le s t _ _) (le-trans (sine-below (rest x) n d 11 h) (mul-le-mul-right (sineDen d) (lit≤ tt)))
 
     go : (v t u : Bool) → t ≡ ltb x (removed x) → u ≡ ltb (a * whole) (quarters a b * halfPi * b)
         → gap (unlike w (v && t)) (cond v (sineUnits one (rest x)) (cosineUnits one (rest x)) * cond v (sineDen d) (cosineDen d)) (unlike w (v && u)) (cond v (sineNum n d) (cosineNum n d) * one) ≤ 23 * cond v (sineDen d) (cosineDen d)
@@ -146,3 +150,33 @@ turned-close more x a b same r = record { proper = proper (even q); close = rw s
     go true true false e f = far _ _ (r .sides true false e f (λ z. absurd (true≢false z)))
     go true false true e f = far _ _ (r .sides false true e f (λ z. absurd (true≢false (sym z))))
     go false t u e f = near-gap (unlike w false) one _ _ _ 15 14 23 (omega arith) (omega arith) (cosine-far one (rest x) n d (lit< tt) (r .small) (r .left) (r .near))
+
+-- it is at most one
+pub turned-most : (more x a b : ℕ) → Reduced x a b → turnedUnits more x ≤ one
+unfolding turnedUnits cosineUnits
+turned-most more x a b r = go (even (quarters x one + more))
+  where
+    less : (R s : ℕ) → s ≤ R → 5 * R ≤ 4 * one → s ≤ one
+    less R s h k = omega arith
+
+    cut : (s p : ℕ) → s - p ≤ s
+    cut s p = omega arith
+
+    go : (v : Bool) → cond v (sineUnits one (rest x)) (cosineUnits one (rest x)) ≤ one
+    go true = less (rest x) (sineUnits one (rest x)) (sine-most (rest x)) (r .small)
+    go false = cut one _
+
+-- both with the other sign
+pub negated-close : (s t : Bool) (S p : ℕ) (f : Signed) (e : ℕ) → Close S t p f e → Close S (unlike s t) p (negated s f) e
+unfolding negated gap
+negated-close s t S p f e c = record { proper = c .proper; close = subst (λ g. g ≤ e * f .bottom) (sym (both s t (f .minus) (p * f .bottom) (f .top * S))) (c .close) }
+  where
+    both : (s t u : Bool) (a b : ℕ) → gap (unlike s t) a (unlike s u) b ≡ gap t a u b
+    both true true true a b = refl
+    both true true false a b = refl
+    both true false true a b = refl
+    both true false false a b = refl
+    both false true true a b = refl
+    both false true false a b = refl
+    both false false true a b = refl
+    both false false false a b = refl
