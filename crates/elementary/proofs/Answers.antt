@@ -8,7 +8,9 @@ use Rattle.laws.proofs.Bools.{holds}
 use Rattle.math.proofs.Sign.{nan-of-eq}
 use Rattle.root.specs.Hypot.{hypot, inDomain, IsHypot}
 use Rattle.root.proofs.HypotBound.{hypot-is}
-use Rattle.elementary.specs.Checked.{hypotAnswer}
+use Rattle.circular.specs.Sine as Circular
+use Rattle.circular.proofs.Bound.{sine-is, cosine-is}
+use Rattle.elementary.specs.Checked.{hypotAnswer, sinAnswer, cosAnswer}
 use Rattle.elementary.specs.declared.error.Refusal.the-variants.{Angle}
 use Rattle.elementary.specs.declared.checked.Real.{Real}
 use Rattle.elementary.specs.declared.checked.Real.the-variants.{Number, Refused}
@@ -33,3 +35,20 @@ module _ (x y h : Float) (tx : T (fits binary64 x)) (ty : T (fits binary64 y)) (
   pub hypot-refused : eq h h ≡ false → Refused Angle ≡ hypotAnswer x y
   unfolding hypotAnswer
   hypot-refused p = refused (inDomain x && inDomain y) h (hypot x y) e (λ t. is .inside t .number) p
+
+module _ (x h : Float) (t : T (fits binary64 x)) where
+  pub sin-answered : h ≡ Circular.sin x → eq h h ≡ true → Number h ≡ sinAnswer x
+  unfolding sinAnswer
+  sin-answered e p = answered (Circular.inDomain x) h (Circular.sin x) e (sine-is x t .outside) p
+
+  pub sin-refused : h ≡ Circular.sin x → eq h h ≡ false → Refused Angle ≡ sinAnswer x
+  unfolding sinAnswer
+  sin-refused e p = refused (Circular.inDomain x) h (Circular.sin x) e (λ d. sine-is x t .inside d .number) p
+
+  pub cos-answered : h ≡ Circular.cos x → eq h h ≡ true → Number h ≡ cosAnswer x
+  unfolding cosAnswer
+  cos-answered e p = answered (Circular.inDomain x) h (Circular.cos x) e (cosine-is x t .outside) p
+
+  pub cos-refused : h ≡ Circular.cos x → eq h h ≡ false → Refused Angle ≡ cosAnswer x
+  unfolding cosAnswer
+  cos-refused e p = refused (Circular.inDomain x) h (Circular.cos x) e (λ d. cosine-is x t .inside d .number) p

@@ -3,6 +3,7 @@ use mathlib.Core.Bool.{cond, _&&_}
 use Prim.Native.Nat.{ℕ}
 use lib.Ieee.{Float, nan}
 use Rattle.root.specs.Hypot.{hypot, inDomain}
+use Rattle.circular.specs.Sine as Circular
 use Rattle.elementary.specs.Refusal.{numberOf}
 use Rattle.elementary.specs.declared.error.Refusal.the-variants.{Angle}
 use Rattle.elementary.specs.declared.checked.Real.{Real}
@@ -19,3 +20,9 @@ valueIn (Refused r) = nan
 
 unfoldable pub hypotAnswer : Float → Float → Real
 hypotAnswer x y = cond (inDomain x && inDomain y) (Number (hypot x y)) (Refused Angle)
+
+unfoldable pub sinAnswer : Float → Real
+sinAnswer x = cond (Circular.inDomain x) (Number (Circular.sin x)) (Refused Angle)
+
+unfoldable pub cosAnswer : Float → Real
+cosAnswer x = cond (Circular.inDomain x) (Number (Circular.cos x)) (Refused Angle)

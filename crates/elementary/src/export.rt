@@ -3,6 +3,7 @@
 ghost use mathlib.Core.Path.{_≡_};
 ghost use Rattle.root.specs.Sqrt.{sqrt, IsSqrt};
 ghost use Rattle.root.specs.Hypot.{hypot, IsHypot};
+ghost use Rattle.circular.specs.Sine.{sin, cos, IsSine, IsCosine};
 
 #[no_mangle]
 pub extern "C" fn elementary_sqrt(x: f64) -> f64
@@ -16,4 +17,18 @@ pub extern "C" fn elementary_hypot(x: f64, y: f64) -> f64
     ensures { λ r. ⌜ (r ≡ hypot x y) × IsHypot x y r ⌝ }
 {
     root::hypot(x, y)
+}
+
+#[no_mangle]
+pub extern "C" fn elementary_sin(x: f64) -> f64
+    ensures { λ r. ⌜ (r ≡ sin x) × IsSine x r ⌝ }
+{
+    circular::sin(x)
+}
+
+#[no_mangle]
+pub extern "C" fn elementary_cos(x: f64) -> f64
+    ensures { λ r. ⌜ (r ≡ cos x) × IsCosine x r ⌝ }
+{
+    circular::cos(x)
 }
