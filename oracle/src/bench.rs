@@ -38,6 +38,9 @@ pub fn all() {
     report("sqrt, all exponents", &wide, |x, _| port::sqrt(x), |x, _| x.sqrt());
     report("hypot", &pairs, port::hypot, f64::hypot);
     report("hypot, all exponents", &wide, port::hypot, f64::hypot);
+    let angles: Vec<(f64, f64)> = (0..COUNT).map(|_| (random.unit() * 32.0 - 16.0, 0.0)).collect();
+    report("sin", &angles, |x, _| port::sin(x), |x, _| x.sin());
+    report("cos", &angles, |x, _| port::cos(x), |x, _| x.cos());
     report("wrap360", &pairs, |_, y| port::wrap360(y), |_, y| crate::compare::whole_fold(y));
     report("wrap180", &pairs, |_, y| port::wrap180(y), |_, y| crate::compare::half_fold(y));
     report("seconds to nanoseconds", &pairs, |x, _| f64::from(port::time_nanos(x)), |x, _| f64::from(crate::compare::time(x).2));

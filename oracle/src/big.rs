@@ -2,15 +2,23 @@
 
 use std::cmp::Ordering;
 
-/// Little-endian digits, with no zero at the top.
+/// Little-endian digits of 64 bits, with no zero at the top.
 #[derive(Clone, PartialEq, Eq, Debug)]
-pub struct Big(Vec<u32>);
+pub struct Big(Vec<u64>);
+
+impl From<u64> for Big {
+    fn from(n: u64) -> Big {
+        Big(vec![n]).trimmed()
+    }
+}
+
+impl From<u128> for Big {
+    fn from(n: u128) -> Big {
+        Big(vec![n as u64, (n >> 64) as u64]).trimmed()
+    }
+}
 
 impl Big {
-    pub fn from(n: u64) -> Big {
-        Big(vec![n as u32, (n >> 32) as u32]).trimmed()
-    }
-
     fn trimmed(mut self) -> Big {
         while self.0.last() == Some(&0) {
             self.0.pop();
@@ -18,44 +26,87 @@ impl Big {
         self
     }
 
+    /// The digit at a place, 0 above the top.
+    fn digit(&self, place: usize) -> u64 {
+        self.0.get(place).copied().unwrap_or(0)
+    }
+
     pub fn shl(&self, bits: usize) -> Big {
-        let (words, rest) = (bits / 32, bits % 32);
-        let mut out = vec![0; words];
+        let (words, rest) = (bits / 64, bits % 64);
+        let mut out = Vec::with_capacity(words + self.0.len() + 1);
+        out.resize(words, 0);
         let mut carry = 0u64;
         for &d in &self.0 {
-            let v = (u64::from(d) << rest) | carry;
-            out.push(v as u32);
-            carry = v >> 32;
+            let v = (u128::from(d) << rest) | u128::from(carry);
+            out.push(v as u64);
+            carry = (v >> 64) as u64;
         }
-        out.push(carry as u32);
+        out.push(carry);
         Big(out).trimmed()
     }
 
     pub fn add(&self, other: &Big) -> Big {
-        let mut out = Vec::new();
-        let mut carry = 0u64;
-        for i in 0..self.0.len().max(other.0.len()) {
-            let digit = |b: &Big| u64::from(b.0.get(i).copied().unwrap_or(0));
-            let v = digit(self) + digit(other) + carry;
-            out.push(v as u32);
-            carry = v >> 32;
+        let len = self.0.len().max(other.0.len());
+        let mut out = Vec::with_capacity(len + 1);
+        let mut carry = 0u128;
+        for i in 0..len {
+            let v = u128::from(self.digit(i)) + u128::from(other.digit(i)) + carry;
+            out.push(v as u64);
+            carry = v >> 64;
         }
-        out.push(carry as u32);
+        out.push(carry as u64);
         Big(out).trimmed()
     }
 
+    /// The difference; `other` must not be the larger.
+    pub fn sub(&self, other: &Big) -> Big {
+        assert!(self >= other, "a difference below 0");
+        let mut out = self.clone();
+        let mut borrow = false;
+        for (i, d) in out.0.iter_mut().enumerate() {
+            let (v, under) = d.overflowing_sub(other.digit(i));
+            let (v, again) = v.overflowing_sub(u64::from(borrow));
+            *d = v;
+            borrow = under | again;
+        }
+        out.trimmed()
+    }
+
+    /// The larger less the smaller.
+    pub fn gap(&self, other: &Big) -> Big {
+        if self < other {
+            other.sub(self)
+        } else {
+            self.sub(other)
+        }
+    }
+
+    /// The product; quickest if `self` is the shorter, or the one with more digits of 0.
     pub fn mul(&self, other: &Big) -> Big {
-        let mut out = vec![0u32; self.0.len() + other.0.len() + 1];
-        for (i, &a) in self.0.iter().enumerate() {
+        let mut out = vec![0u64; self.0.len() + other.0.len()];
+        for (i, &a) in self.0.iter().enumerate().filter(|(_, &a)| a != 0) {
             let mut carry = 0u64;
-            for (j, &b) in other.0.iter().enumerate() {
-                let v = u64::from(a) * u64::from(b) + u64::from(out[i + j]) + carry;
-                out[i + j] = v as u32;
-                carry = v >> 32;
+            for (d, &b) in out[i..].iter_mut().zip(&other.0) {
+                let v = u128::from(a) * u128::from(b) + u128::from(*d) + u128::from(carry);
+                *d = v as u64;
+                carry = (v >> 64) as u64;
             }
-            out[i + other.0.len()] = carry as u32;
+            out[i + other.0.len()] = carry;
         }
         Big(out).trimmed()
+    }
+
+    /// About self / other, for reports: within 2^-50 of it, relatively, if it is from 2^-900 to 2^900.
+    pub fn ratio(&self, other: &Big) -> f64 {
+        let ((a, i), (b, j)) = (self.leading(), other.leading());
+        a / b * 2f64.powi(64 * (i - j))
+    }
+
+    /// The two leading digits as a float, and the lower one's place.
+    fn leading(&self) -> (f64, i32) {
+        let place = self.0.len().saturating_sub(2);
+        let wide = u128::from(self.digit(place + 1)) << 64 | u128::from(self.digit(place));
+        (wide as f64, place as i32)
     }
 }
 
@@ -67,7 +118,9 @@ impl PartialOrd for Big {
 
 impl Ord for Big {
     fn cmp(&self, other: &Big) -> Ordering {
-        self.0.len().cmp(&other.0.len()).then_with(|| self.0.iter().rev().cmp(other.0.iter().rev()))
+        let (a, b) = (&self.0, &other.0);
+        let by_length = a.len().cmp(&b.len());
+        by_length.then_with(|| a.iter().rev().cmp(b.iter().rev()))
     }
 }
 

@@ -5,7 +5,7 @@ use std::time::Duration;
 use crate::big::{units, Big};
 use crate::inputs::{Random, LIMITS};
 use crate::listed::math;
-use crate::port;
+use crate::{circular, method, port};
 
 /// Runs a comparison `count` times and reports it; `case` answers the words of a difference.
 fn run(name: &str, count: u64, mut case: impl FnMut(u64, &mut Random) -> Option<String>) -> bool {
@@ -144,6 +144,36 @@ fn seconds_input(i: u64, random: &mut Random) -> f64 {
     }
 }
 
+/// Angles: limits, any float, all of the domain, and the neighbours of the multiples of a quarter pi.
+pub fn angle_input(i: u64, random: &mut Random) -> f64 {
+    if let Some(&x) = LIMITS.get(i as usize) {
+        return x;
+    }
+    match i % 4 {
+        0 => random.float(),
+        1 => {
+            let turn = (random.below(43) as f64 - 21.0) * std::f64::consts::FRAC_PI_4;
+            random.near(turn)
+        }
+        2 => math::to_radians(random.below(360 * 1024) as f64 / 1024.0),
+        _ => random.unit() * 34.0 - 17.0,
+    }
+}
+
+/// Checks exactly that answers are within 2^-48 of a sum, and reports the largest error.
+fn bound(name: &str, angles: &[f64], ours: fn(f64) -> f64, sum: fn(f64) -> circular::Exact) -> bool {
+    let (mut outside, mut largest, mut at) = (0, 0.0, 0.0);
+    for &x in angles {
+        let (within, error) = circular::error(ours(x), &sum(x));
+        outside += u64::from(!within);
+        if error > largest {
+            (largest, at) = (error, x);
+        }
+    }
+    println!("{name}: {} within 2^-48 of the sum, {outside} outside; the largest error is {largest:.4} of that, at {at:e}", angles.len());
+    outside == 0
+}
+
 /// Compares every function that is ported so far.
 pub fn all(count: u64) -> bool {
     let mut good = true;
@@ -156,6 +186,15 @@ pub fn all(count: u64) -> bool {
         let r = port::hypot(x, y);
         (!hypotenuse_holds(x, y, r)).then(|| format!("{x:e} {y:e}: {r:e}"))
     });
+    for (name, ours, plain) in [("sin", port::sin as fn(f64) -> f64, method::sine as fn(f64) -> f64), ("cos", port::cos, method::cosine)] {
+        good &= run(name, count, |i, random| {
+            let x = angle_input(i, random);
+            floats(x, ours(x), plain(x))
+        });
+    }
+    let angles = circular::inputs(100_000);
+    good &= bound("sin", &angles, port::sin, circular::sine_sum);
+    good &= bound("cos", &angles, port::cos, circular::cosine_sum);
     let unary: [(&str, fn(f64) -> f64, fn(f64) -> f64); 7] = [
         ("trunc", port::trunc, math::trunc),
         ("round", port::round, math::round),

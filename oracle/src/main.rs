@@ -4,8 +4,10 @@
 
 mod bench;
 mod big;
+mod circular;
 mod compare;
 mod inputs;
+mod method;
 mod port;
 mod vectors;
 

@@ -16,6 +16,8 @@ macro_rules! exports {
 exports! {
     sqrt = elementary_sqrt(x: f64) -> f64;
     hypot = elementary_hypot(x: f64, y: f64) -> f64;
+    sin = elementary_sin(x: f64) -> f64;
+    cos = elementary_cos(x: f64) -> f64;
     trunc = port_trunc(x: f64) -> f64;
     round = port_round(x: f64) -> f64;
     ceil = port_ceil(x: f64) -> f64;

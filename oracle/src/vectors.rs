@@ -3,10 +3,10 @@
 use std::fs;
 use std::path::Path;
 
-use crate::compare::{half_fold, hypot_input, hypotenuse_holds, time, whole_fold};
+use crate::compare::{angle_input, half_fold, hypot_input, hypotenuse_holds, time, whole_fold};
 use crate::inputs::{Random, LIMITS};
 use crate::listed::math;
-use crate::port;
+use crate::{method, port};
 
 /// The pattern that stands for every NaN.
 const NAN: u64 = 0x7ff8_0000_0000_0000;
@@ -17,6 +17,15 @@ const EACH: u64 = 120;
 fn pattern(x: f64) -> u64 {
     if x.is_nan() {
         NAN
+    } else {
+        x.to_bits()
+    }
+}
+
+/// A number, or refusal 1 in place of a NaN.
+fn refusing(x: f64) -> u64 {
+    if x.is_nan() {
+        1
     } else {
         x.to_bits()
     }
@@ -55,20 +64,15 @@ fn answer(which: u64, a: u64, b: u64) -> u64 {
         9 | 12 => pattern(whole_fold(x)),
         10 => pattern(half_fold(x)),
         11 => pattern(whole_fold(x + 180.0)),
+        13 => pattern(method::sine(x)),
+        14 => pattern(method::cosine(x)),
         20 => u64::from(math::is_integral(x)),
         21 => u64::from(math::is_effectively_zero(x, y)),
         22 => pattern(f64::from(math::round_to_i32(x))),
         23 => math::to_usize(x) as u64,
         24 => pattern(math::count_to_f64(a as usize)),
         25 => u64::from((0.0..=y).contains(&x)),
-        26 => {
-            let r = port::hypot(x, y);
-            if r.is_nan() {
-                1
-            } else {
-                pattern(r)
-            }
-        }
+        26 => refusing(port::hypot(x, y)),
         27 => split(x, true),
         28 => split(x, false),
         29 => split(x * 3600.0, true),
@@ -76,6 +80,8 @@ fn answer(which: u64, a: u64, b: u64) -> u64 {
         31 => pattern((a as f64 + nanos(b) as f64 / 1e9) / 3600.0),
         32 => u64::from((a, 1) < (b, 2)),
         33 => u64::from(nanos(b) < 1_000_000_000 && (a, nanos(b)) <= (1 << 53, 0)),
+        34 => refusing(method::sine(x)),
+        35 => refusing(method::cosine(x)),
         _ => unreachable!(),
     }
 }
@@ -89,6 +95,7 @@ fn arguments(which: u64, i: u64, random: &mut Random) -> (u64, u64) {
             let (x, y) = hypot_input(if i < 60 { i * 27 } else { i + 100_000 }, random);
             (x.to_bits(), y.to_bits())
         }
+        13 | 14 | 34 | 35 => (angle_input(i, random).to_bits(), 0),
         21 => (random.near(x * 1e-12).to_bits(), x.to_bits()),
         24 => (random.word() >> random.below(64), 0),
         31 => (random.word() >> random.below(64), random.below(1_000_000_000)),
@@ -102,7 +109,7 @@ pub fn write() {
     let folder = Path::new(env!("CARGO_MANIFEST_DIR")).join("../crates/elementary_main");
     let mut random = Random::new(11);
     let (mut records, mut answers) = (Vec::new(), String::new());
-    for which in (0..=12).chain(20..=33) {
+    for which in (0..=14).chain(20..=35) {
         for i in 0..EACH {
             let (a, b) = arguments(which, i, &mut random);
             for word in [which, a, b] {

@@ -96,7 +96,9 @@ fn number(which: u64, x: f64, y: f64) -> f64 {
         9 => angle::wrap360(x),
         10 => angle::wrap180(x),
         11 => angle::reciprocal(x),
-        _ => angle::from_degrees_wrapped(x),
+        12 => angle::from_degrees_wrapped(x),
+        13 => circular::sin(x),
+        _ => circular::cos(x),
     }
 }
 
@@ -118,7 +120,9 @@ fn other(which: u64, a: u64, b: u64) -> u64 {
         30 => nanos_in(time::duration_from_hours(x)),
         31 => pattern_of(duration(a, b).hours()),
         32 => truth(duration(a, 1).is_before(duration(b, 2))),
-        _ => truth(duration(a, b).is_accepted()),
+        33 => truth(duration(a, b).is_accepted()),
+        34 => pattern_in(elementary::checked::sin(x)),
+        _ => pattern_in(elementary::checked::cos(x)),
     }
 }
 
