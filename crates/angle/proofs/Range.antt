@@ -1,25 +1,24 @@
 -- The folds of a finite number lie where document 01 says. A remainder by 360 is at most 360 in size, since what is below a float rounds to at most that float; 360 itself is read as 0.
 -- Above 180 a float is a multiple of 2 ^ -45, so that 360 less it is exact.
 use mathlib.Core.Path.{_≡_, refl, sym, ap, _∙_, subst}
-use mathlib.Core.Bool.{Bool, true, false, not, cond, _||_, _&&_, true≢false}
-use mathlib.Core.Logic.{_⊎_, inl, inr}
+use mathlib.Core.Bool.{Bool, true, false, not, cond}
+use mathlib.Core.Logic.{inl, inr}
 use Prim.Native.Nat.{ℕ, zero-le, _+_, _*_, _-_, _^_, _%_, _≤_, _<_}
-use native.Mathlib.Nat.{le-trans, le-of-lt, le-of-eq, lt-of-lt-of-le, lt-of-le-of-lt, mod-lt, mul-pos, mul-one, mul-assoc, mul-le-mul-left, mul-le-mul-right, mul-lt-mul-of-pos-right, lt-of-mul-lt-mul-right, eq-or-lt-of-le, sub-le, not-le-of-lt}
+use native.Mathlib.Nat.{le-trans, le-of-lt, lt-of-lt-of-le, lt-of-le-of-lt, mod-lt, mul-pos, mul-assoc, mul-le-mul-left, mul-le-mul-right, mul-lt-mul-of-pos-right, lt-of-mul-lt-mul-right, eq-or-lt-of-le, sub-le, not-le-of-lt}
 use native.Mathlib.Omega.{arith}
-use lib.IntN.{pos}
-use lib.Dec.{T, ltb, eqb, lt→ltb, ltb→lt, lit<, lit≤}
+use lib.Dec.{T, lt→ltb, ltb→lt, lit<, lit≤}
 use lib.Pow.{pow-pos, pow-add, pow-mono}
 use lib.Ieee.{Float, nan, inf, fin, binary64, fits, up, down, add, sub, neg, rem, round, lt, le, eq, isNan, ofBits}
 use lib.Ieee.Exact.{HasValue, round-exact}
 use lib.Ieee.Fits.{down-pos, add-fits, rem-fits, cond-fits}
-use lib.Ieee.Scale.{finite, grid, overflow}
+use lib.Ieee.Scale.{finite, grid}
 use Rattle.laws.specs.Units.{Units, sign, unitsOf}
-use Rattle.laws.proofs.Bools.{holds, fails, or-left, or-elim, test-of-le}
+use Rattle.laws.proofs.Bools.{holds, fails, or-elim, test-of-le}
 use Rattle.laws.proofs.Numbers.{le-by, sub-add, sub-mul}
-use Rattle.laws.proofs.Compare.{lt-units, lt-units-signed, le-units, le-values}
+use Rattle.laws.proofs.Compare.{lt-units, lt-units-signed, le-units}
 use Rattle.laws.proofs.Error.{in-range, round-value, round-at-most, under-float}
 use Rattle.laws.proofs.Order.{le-or-lt, lt-le-trans, le-of-lt-float}
-use Rattle.laws.proofs.Units.{form, own-units, units-are, finite-of-units, neg-units, add-larger, add-equal}
+use Rattle.laws.proofs.Units.{form, own-units, finite-of-units, neg-units, add-larger, add-equal}
 use Rattle.angle.specs.Fold.{zero, halfTurn, minusHalfTurn, fullTurn, turned, wholeFold, halfFold, IsDirection, IsDifference}
 
 -- a full turn is 45 * 2 ^ 1077 units

@@ -5,39 +5,38 @@ use mathlib.Core.Path.{_≡_, refl, sym, ap, _∙_, subst}
 use mathlib.Core.Bool.{Bool, true, false, not, _&&_, cond}
 use mathlib.Core.List.{List, [], _∷_}
 use mathlib.Core.Logic.{_⊎_, inl, inr}
-use Prim.Native.Nat.{ℕ, zero, suc, _+_, _*_, _-_, _^_, _/_, _%_, _≤_, _<_}
-use native.Mathlib.Nat.{mul-le-mul, mul-le-mul-left, mul-le-mul-right, le-trans, le-of-lt, le-refl, lt-of-le-of-lt, lt-of-lt-of-le, mul-pos, mul-assoc, mul-comm, mul-one, one-mul, mul-div-cancel, div-mul-le-self, lt-div-mul-add, div-le-of-le-mul, eq-or-lt-of-le, eq-of-mul-eq-mul-right, le-of-mul-le-mul-left}
+use Prim.Native.Nat.{ℕ, _+_, _*_, _-_, _^_, _/_, _≤_, _<_}
+use native.Mathlib.Nat.{mul-le-mul, mul-le-mul-left, mul-le-mul-right, le-trans, le-of-lt, lt-of-le-of-lt, mul-div-cancel, div-mul-le-self, lt-div-mul-add, div-le-of-le-mul, eq-or-lt-of-le, eq-of-mul-eq-mul-right, le-of-mul-le-mul-left}
 use native.Mathlib.Omega.{arith}
 use lib.Dec.{T, leb, ltb, leb→le, nleb→lt, ltb→lt, lit<, lit≤}
 use lib.Pow.{pow-add, pow-pos, pow-lt}
-use lib.Ieee.{Float, nan, inf, fin, binary64, fits, round, lt, le, eq, unlike, ofBits}
-use lib.Ieee.Bits.{is-true, is-false}
+use lib.Ieee.{Float, nan, inf, fin, binary64, fits, round, lt, unlike, ofBits}
+use lib.Ieee.Bits.{is-true}
 use lib.Ieee.Exact.{HasValue, round-exact}
 use lib.Ieee.Fits.{round-fits}
 use lib.Ieee.Scale.{finite}
 use Rattle.laws.specs.Units.{Units, sign, unitsOf}
-use Rattle.laws.proofs.Bools.{holds, refuted, le-of-test}
-use Rattle.laws.proofs.Compare.{le-units, lt-units}
+use Rattle.laws.proofs.Bools.{holds, refuted}
+use Rattle.laws.proofs.Compare.{lt-units}
 use Rattle.laws.proofs.Exact.{finite-of-value, value-units}
 use Rattle.laws.proofs.Numbers.{sub-add}
 use Rattle.laws.proofs.Order.{lt-trans, le-of-lt-float}
 use Rattle.laws.proofs.Units.{Form, form, own-units}
 use Rattle.math.specs.Sign.{abs}
-use Rattle.series.specs.Angle.{halfPi, whole, distance, quarters, Signed, negative, even, reduced, turned, negated, sineSum, cosineSum, gap, Close}
+use Rattle.math.proofs.Sign.{at-most-size}
+use Rattle.series.specs.Angle.{whole, distance, quarters, NearestMultiple, Signed, negative, even, reduced, turned, negated, sineSum, cosineSum, gap, Close}
 use Rattle.series.specs.Taylor.{num, den, sineDivisors, sineNum, sineDen}
-use Rattle.series.specs.Units.{one, rest, turnedMinus, turnedUnits}
+use Rattle.series.specs.Units.{one, turnedMinus, turnedUnits}
 use Rattle.series.proofs.Near.{Near}
 use Rattle.series.proofs.Horner.{num-le-den}
-use Rattle.series.proofs.Reduction.{quarters-same, quarters-between, quarters-few}
+use Rattle.series.proofs.Reduction.{quarters-nearest, quarters-same, quarters-between, quarters-few}
 use Rattle.series.proofs.Turned.{Reduced, reduced-by-units, turned-close, turned-most, negated-close, gap-same, sine-proper}
 use Rattle.circular.specs.Sine.{largest, tiny, inDomain, scaled, fromUnits, sin, cos, sineOf, cosineOf, Value, IsSine, IsCosine}
 
 -- ---- the domain
 pub in-domain : (x : Float) → T (fits binary64 x) → T (inDomain x) → T (finite x) × (unitsOf x ≤ 16 * 2 ^ 1074)
-unfolding inDomain abs
-in-domain nan t d = absurd (unfold le lt eq ofBits in d)
-in-domain (inf s) t d = absurd (unfold le lt eq ofBits in d)
-in-domain (fin s m e) t d = (tt, le-of-test (unitsOf (fin s m e)) (16 * 2 ^ 1074) (subst T (le-units (fin false m e) largest (unitsOf (fin s m e)) (16 * 2 ^ 1074) (refl, own-units (fin s m e) t tt .1) (unfold ofBits in (refl, refl))) d))
+unfolding inDomain
+in-domain x t d = at-most-size x largest (16 * 2 ^ 1074) t (unfold ofBits in (refl, refl)) d
 
 -- ---- from units to an f64
 rounded-value : (s : Bool) (v : ℕ) → v ≤ 2 ^ 53 → HasValue (round binary64 s v (2 ^ 53)) s v (2 ^ 53)
@@ -307,3 +306,7 @@ cosine-is x t = record { inside = λ d. go (inDomain x) refl d; outside = λ d. 
 
     none : (c : Bool) → T (not c) → cond c answer nan ≡ nan
     none false d = refl
+
+-- ---- the multiple of half pi that is removed is the nearest
+pub nearest-removed : (x : Float) → T (fits binary64 x) → T (inDomain x) → NearestMultiple (unitsOf x) (2 ^ 1074) (quarters (scaled x) one)
+nearest-removed x t d = subst (NearestMultiple (unitsOf x) (2 ^ 1074)) (sym (same-quarters x t (in-domain x t d .0))) (quarters-nearest (unitsOf x) (2 ^ 1074) (pow-pos 1074))

@@ -8,7 +8,7 @@ use native.Mathlib.Nat.{mul-le-mul-left, mul-le-mul-right, le-refl, eq-or-lt-of-
 use native.Mathlib.Omega.{arith}
 use lib.Dec.{lit<, lit≤}
 use Rattle.series.specs.Angle.{halfPi, whole, quarters}
-use Rattle.series.specs.Units.{one, halfPiUnits}
+use Rattle.series.specs.Units.{one}
 use Rattle.series.proofs.Reduction.{quarters-between}
 
 module _ (w K F B q n : ℕ) (eq : q ≡ w * K + F) (odd : K ≡ 2 * B + 1) (least : 81 * w ≤ 125 * F) (most : 20 * F ≤ 13 * w) where

@@ -1,21 +1,21 @@
 -- What the code owes, step by step.
 use mathlib.Core.Path.{_≡_, refl, sym, ap, _∙_, subst}
-use mathlib.Core.Bool.{Bool, true, false, not, _&&_, cond, true≢false}
-use Prim.Native.Nat.{ℕ, zero, suc, _+_, _*_, _-_, _^_, _/_, _%_, _≤_, _<_}
-use native.Mathlib.Nat.{le-trans, lt-of-le-of-lt, mul-le-mul-right, div-le-of-le-mul, mul-assoc, mul-comm}
+use mathlib.Core.Bool.{Bool, true, false, not, cond, true≢false}
+use Prim.Native.Nat.{ℕ, _+_, _*_, _-_, _^_, _/_, _%_, _≤_, _<_}
+use native.Mathlib.Nat.{le-trans, lt-of-le-of-lt, mul-le-mul-right, div-le-of-le-mul}
 use native.Mathlib.Omega.{arith}
 use lib.IntN.{ℤ, pos, negsuc}
 use lib.Dec.{T, leb, ltb, eqb, ltb→lt, nltb→le, lt→ltb, le→leb, lit<, lit≤}
 use lib.Pow.{pow-pos}
-use lib.Ieee.{Float, nan, inf, fin, binary64, fits, up, down, neg, mul, div, round, ofInt, toUnsigned, inFloat, lt, le, eq, unlike, ofBits}
-use lib.Ieee.Bits.{is-true, is-false}
+use lib.Ieee.{Float, nan, inf, fin, binary64, fits, up, down, neg, mul, div, round, ofInt, toUnsigned, inFloat, lt, le, unlike, ofBits}
+use lib.Ieee.Bits.{is-true}
 use lib.Ieee.Exact.{HasValue}
 use lib.Ieee.Fits.{down-pos, eq→eqb}
 use lib.Ieee.Scale.{finite, round-same}
 use Rattle.laws.specs.Units.{Units, sign, unitsOf}
 use Rattle.laws.proofs.Bools.{holds, fails, refuted}
 use Rattle.laws.proofs.Compare.{lt-units, lt-units-signed}
-use Rattle.laws.proofs.Exact.{mul-power, to-unsigned, castable-value, whole-value}
+use Rattle.laws.proofs.Exact.{mul-power, to-unsigned, castable-value, whole-value, zero-by-zero}
 use Rattle.laws.proofs.Units.{own-units}
 use Rattle.math.specs.Sign.{abs}
 use Rattle.math.proofs.Sign.{abs-units, units-of-abs, neg-round}
@@ -166,11 +166,6 @@ unlike-true false = refl
 unlike-none : (s : Bool) → s ≡ unlike false s
 unlike-none true = refl
 unlike-none false = refl
-
--- 0 / 0 is the NaN
-zero-by-zero : div binary64 zero-float zero-float ≡ nan
-unfolding div ofBits
-zero-by-zero = refl
 
 module _ (x a : Float) (t : T (fits binary64 x)) (e : a ≡ abs x) where
   domain : inDomain x ≡ le a largest

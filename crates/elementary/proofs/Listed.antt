@@ -1,5 +1,4 @@
 -- A refusal's number is one of document 01's, 1 to 16, and says which refusal it is.
-use mathlib.Core.Path.{_≡_, ap, _∙_, refl}
 use Prim.Native.Nat.{ℕ, _≤_}
 use native.Mathlib.Omega.{arith}
 use Rattle.elementary.specs.Refusal.{numberOf}

@@ -1,7 +1,7 @@
 -- The refusing functions: inside the domain the number, outside it refusal number 1.
 use mathlib.Core.Bool.{cond, _&&_}
 use Prim.Native.Nat.{ℕ}
-use lib.Ieee.{Float, nan}
+use lib.Ieee.{Float, nan, eq}
 use Rattle.root.specs.Hypot.{hypot, inDomain}
 use Rattle.circular.specs.Sine as Circular
 use Rattle.elementary.specs.Refusal.{numberOf}
@@ -17,6 +17,10 @@ refusalIn (Refused r) = numberOf r
 abbrev pub valueIn : Real → Float
 valueIn (Number x) = x
 valueIn (Refused r) = nan
+
+-- a value, or refusal 1 in place of a NaN
+unfoldable pub numberOrRefused : Float → Real
+numberOrRefused x = cond (eq x x) (Number x) (Refused Angle)
 
 unfoldable pub hypotAnswer : Float → Float → Real
 hypotAnswer x y = cond (inDomain x && inDomain y) (Number (hypot x y)) (Refused Angle)

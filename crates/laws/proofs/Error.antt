@@ -1,8 +1,8 @@
 -- The error of one operation: a fraction, a product, a sum or a quotient of floats, rounded once. Nothing overflows up to 2 ^ 1023.
-use mathlib.Core.Path.{_≡_, refl, sym, subst}
+use mathlib.Core.Path.{refl, sym, subst}
 use mathlib.Core.Bool.{Bool, false}
 use Prim.Native.Nat.{ℕ, _+_, _*_, _^_, _≤_, _<_}
-use native.Mathlib.Nat.{le-trans, le-of-eq, lt-of-lt-of-le, lt-of-le-of-lt, lt-of-not-le, mul-comm, mul-right-comm, mul-le-mul-right, le-of-mul-le-mul-right, mul-pos}
+use native.Mathlib.Nat.{le-trans, le-of-eq, lt-of-lt-of-le, lt-of-not-le, mul-comm, mul-right-comm, mul-le-mul-right, le-of-mul-le-mul-right, mul-pos}
 use mathlib.Core.Path.{ap, _∙_}
 use native.Mathlib.Omega.{arith}
 use lib.Dec.{T, lit<, lit≤}

@@ -1,13 +1,13 @@
 -- Where an operation is exact: rounding a float's own value, a whole number of 53 digits as a float, a product with a power of two, and the whole part of a float as an integer.
 use mathlib.Core.Path.{_≡_, refl, sym, ap, _∙_, subst}
-use mathlib.Core.Bool.{Bool, true, false, cond}
-use Prim.Native.Nat.{ℕ, zero, suc, _+_, _*_, _-_, _^_, _/_, _≤_, _<_, min}
-use native.Mathlib.Nat.{le-of-lt, lt-of-le-of-lt, mul-pos, mul-one, one-mul, mul-comm, mul-assoc, mul-right-comm, mul-le-mul-right, eq-of-mul-eq-mul-right}
+use mathlib.Core.Bool.{Bool, true, false}
+use Prim.Native.Nat.{ℕ, suc, _+_, _*_, _-_, _^_, _/_, _≤_, _<_, min}
+use native.Mathlib.Nat.{le-of-lt, lt-of-le-of-lt, mul-pos, mul-one, mul-assoc, mul-le-mul-right, eq-of-mul-eq-mul-right}
 use native.Mathlib.Omega.{arith}
 use lib.IntN.{pos, negsuc}
-use lib.Dec.{T, lt→ltb, lit<}
+use lib.Dec.{T, lt→ltb}
 use lib.Pow.{pow-add, pow-pos}
-use lib.Ieee.{Float, nan, inf, fin, binary64, fits, up, down, mul, round, unlike, ofInt, toUnsigned, lt, le, eq}
+use lib.Ieee.{Float, nan, inf, fin, binary64, fits, up, down, mul, round, unlike, ofInt, toUnsigned, lt, le, div, ofBits}
 use lib.Ieee.Back.{round-whole}
 use lib.Ieee.Exact.{HasValue, round-exact}
 use lib.Ieee.Fits.{round-fits, down-pos}
@@ -135,3 +135,8 @@ castable-value y a c C v h = (
 -- what the cast to a u64 asks, from tests at 0 and at a limit below 2 ^ 64
 pub castable : (x y : Float) → T (le (fin false 0 (pos 0)) x) → T (le x y) → T (lt y (fin false 1 (pos 64))) → T (lt (fin true 1 (pos 0)) x) × T (lt x (fin false 1 (pos 64)))
 castable x y l h k = (lt-le-trans (fin true 1 (pos 0)) (fin false 0 (pos 0)) x (unfold lt in tt) l, le-lt-trans x y (fin false 1 (pos 64)) h k)
+
+-- 0 / 0 is the NaN
+pub zero-by-zero : div binary64 (ofBits binary64 0) (ofBits binary64 0) ≡ nan
+unfolding div ofBits
+zero-by-zero = refl

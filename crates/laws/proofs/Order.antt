@@ -1,7 +1,7 @@
 -- The order of floats: `lt` is irreflexive and transitive, `eq` is an equality beside it, and of two numbers one is at most the other.
 -- A NaN is below nothing and above nothing, so only the last law asks that a value is a number.
 use mathlib.Core.Path.{_≡_, refl, sym, ap, subst, _∙_}
-use mathlib.Core.Bool.{Bool, true, false, not, _&&_, _||_, Bool·beq}
+use mathlib.Core.Bool.{Bool, true, false, not, _||_, Bool·beq}
 use mathlib.Core.Logic.{_⊎_, inl, inr}
 use Prim.Native.Nat.{ℕ, zero, suc, _+_, _*_, _≤_, _<_}
 use native.Mathlib.Nat.{lt-irrefl, lt-of-lt-of-le, lt-of-le-of-lt, le-of-lt, le-of-eq, mul-right-comm, mul-le-mul-right, mul-lt-mul-of-pos-right, lt-of-mul-lt-mul-right, mul-pos, zero-mul, eq-of-mul-eq-mul-right, eq-zero-or-pos, add-comm}

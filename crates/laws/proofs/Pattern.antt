@@ -1,7 +1,7 @@
 -- Floats by their bit patterns: the exponent's field, and the 52 digits below the leading one. Of a float with its sign clear, the field k + 1 with the digits t stands for (2 ^ 52 + t) * 2 ^ k units, and the field 0 for t units.
 use mathlib.Core.Path.{_≡_, refl, sym, ap, _∙_, subst}
 use mathlib.Core.Bool.{Bool, true, false, not, cond, true≢false}
-use mathlib.Core.Logic.{_⊎_, inl, inr}
+use mathlib.Core.Logic.{inl, inr}
 use Prim.Native.Nat.{ℕ, suc, _+_, _*_, _-_, _^_, _/_, _%_, _≤_, _<_}
 use native.Mathlib.Nat.{pow-succ', mod-eq-of-lt, lt-of-lt-of-le, eq-or-lt-of-le, zero-add}
 use native.Mathlib.Omega.{arith}

@@ -1,9 +1,8 @@
 -- Sizes at powers of two: `Small p q x` (x is at most 2 ^ p / 2 ^ q in size) and `AtLeast p q x`. Each operation keeps such bounds, since what is at most a float rounds to at most that float.
 use mathlib.Core.Path.{_≡_, refl, sym, ap, _∙_, subst}
 use mathlib.Core.Bool.{Bool, true, false, not, _||_, _&&_}
-use mathlib.Core.Logic.{_⊎_, inl, inr}
 use Prim.Native.Nat.{ℕ, suc, _+_, _*_, _-_, _^_, _≤_, _<_}
-use native.Mathlib.Nat.{le-trans, le-of-eq, lt-of-lt-of-le, mul-le-mul, mul-le-mul-right, le-of-mul-le-mul-right, mul-pos, mul-one, one-mul, mul-comm, mul-right-comm, mul-assoc, zero-mul, pow-succ'}
+use native.Mathlib.Nat.{le-trans, le-of-eq, lt-of-lt-of-le, mul-le-mul, mul-le-mul-right, le-of-mul-le-mul-right, mul-pos, mul-one, one-mul, zero-mul, pow-succ'}
 use native.Mathlib.Omega.{arith}
 use lib.IntN.{ℤ, pos}
 use lib.Dec.{T, ltb, eqb, eqb→eq, nltb→le, lt→ltb, lit<}
@@ -12,14 +11,14 @@ use lib.Ieee.{Float, nan, inf, fin, up, down, binary64, fits, add, sub, mul, div
 use lib.Ieee.Exact.{HasValue}
 use lib.Ieee.Fits.{neg-fits, round-fits, down-pos, and-l}
 use lib.Ieee.Positive.{first-pos}
-use lib.Ieee.Scale.{grid, overflow, finite}
+use lib.Ieee.Scale.{grid, finite}
 use Rattle.laws.specs.Size.{Small, AtLeast}
 use Rattle.laws.specs.Units.{Units, sign, unitsOf}
 use Rattle.laws.proofs.Bools.{or-left, le-of-test, test-of-le}
 use Rattle.laws.proofs.Compare.{le-units, lt-units}
 use Rattle.laws.proofs.Error.{in-range, round-value, round-at-most, round-at-least}
 use Rattle.laws.proofs.Numbers.{sub-add}
-use Rattle.laws.proofs.Units.{own-units, units-are, finite-of-units, rescale, mul-units, div-units, neg-units, SumOf, add-rounding}
+use Rattle.laws.proofs.Units.{own-units, units-are, finite-of-units, mul-units, div-units, neg-units, SumOf, add-rounding}
 
 pub units-small : {p q : ℕ} {x : Float} → Small p q x → Units x (sign x) (unitsOf x)
 units-small {x = x} h = own-units x (h .held) (h .number)

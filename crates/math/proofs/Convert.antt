@@ -1,6 +1,5 @@
 -- The constant 180 / π as the compiler has it is the rounded quotient of its definition, and degrees below 360 are at most 16 radians.
-use mathlib.Core.Path.{_≡_, refl, ap, sym, subst}
-use native.Mathlib.Nat.{le-trans}
+use mathlib.Core.Path.{_≡_, refl, ap, subst}
 use lib.Dec.{T, lit<, lit≤}
 use lib.Ieee.{Float, binary64, fits, div, mul, ofBits, round}
 use Rattle.laws.specs.Size.{Small, AtLeast}

@@ -1,8 +1,8 @@
 -- `abs` drops the sign bit of a pattern and `copysign` sets it; a rounded fraction changes its sign with the fraction.
 use mathlib.Core.Path.{_≡_, refl, sym, ap, _∙_, subst}
 use mathlib.Core.Bool.{Bool, true, false, not, cond}
-use Prim.Native.Nat.{ℕ, zero, suc, _+_, _*_, _^_, _%_, _<_}
-use native.Mathlib.Nat.{lt-of-lt-of-le, mod-eq-of-lt, add-mod-left, zero-add}
+use Prim.Native.Nat.{ℕ, zero, suc, _+_, _*_, _^_, _%_, _≤_, _<_}
+use native.Mathlib.Nat.{lt-of-lt-of-le, zero-add}
 use native.Mathlib.Omega.{arith}
 use lib.IntN.{pos}
 use lib.Arith.{lt→nleb}
@@ -14,8 +14,10 @@ use lib.Ieee.Exact.{HasValue}
 use lib.Ieee.Fits.{round-is}
 use lib.Ieee.Scale.{finite}
 use Rattle.laws.specs.Units.{Units, unitsOf}
-use Rattle.laws.proofs.Bools.{fails}
+use Rattle.laws.proofs.Bools.{le-of-test}
+use Rattle.laws.proofs.Compare.{le-units}
 use Rattle.laws.proofs.Pattern.{pattern-lt, no-nan-of-eq}
+use Rattle.laws.proofs.Units.{own-units}
 use Rattle.math.specs.Sign.{sign, abs, copysign}
 
 -- ---- NaN
@@ -43,11 +45,23 @@ abs-units nan s n v = absurd v
 abs-units (inf t) s n v = absurd v
 abs-units (fin t m e) s n v = (refl, v .1)
 
+abs-own : (x : Float) → T (fits binary64 x) → T (finite x) → Units (abs x) false (unitsOf x)
+abs-own x t f = abs-units x (sign x) (unitsOf x) (own-units x t f)
+
 pub units-of-abs : (x : Float) → unitsOf (abs x) ≡ unitsOf x
 unfolding abs unitsOf
 units-of-abs nan = refl
 units-of-abs (inf s) = refl
 units-of-abs (fin s m e) = refl
+
+-- |x| ≤ y: x is finite, and no larger
+pub at-most-size : (x y : Float) (b : ℕ) → T (fits binary64 x) → Units y false b → T (le (abs x) y) → T (finite x) × (unitsOf x ≤ b)
+unfolding abs
+at-most-size nan y b t v h = absurd (unfold le lt eq in h)
+at-most-size (inf s) nan b t v h = absurd v
+at-most-size (inf s) (inf r) b t v h = absurd v
+at-most-size (inf s) (fin r n d) b t v h = absurd (unfold le lt eq in h)
+at-most-size (fin s m e) y b t v h = (tt, le-of-test (unitsOf (fin s m e)) b (subst T (le-units (fin false m e) y (unitsOf (fin s m e)) b (abs-own (fin s m e) t tt) v) h))
 
 -- the pattern is the sign bit and the pattern of the absolute value
 split : (x : Float) → T (not (isNan x)) → toBits binary64 x ≡ cond (sign x) (2 ^ 63) 0 + toBits binary64 (abs x)

@@ -1,29 +1,26 @@
 -- Below 2 ^ 52 a float's whole part goes through a u64 and back without loss; from 2 ^ 52 on every float is whole, and rounding to a whole number leaves it as it is.
 use mathlib.Core.Path.{_≡_, refl, sym, ap, _∙_, subst}
-use mathlib.Core.Bool.{Bool, true, false, not, cond, _||_}
-use mathlib.Core.Logic.{_⊎_, inl, inr}
-use Prim.Native.Nat.{ℕ, zero, suc, _+_, _*_, _-_, _^_, _/_, _%_, _≤_, _<_}
-use native.Mathlib.Nat.{le-trans, le-of-lt, lt-of-lt-of-le, lt-irrefl, mul-one, mul-comm, div-one, div-lt-iff-lt-mul, div-mul-le-self, lt-div-mul-add, add-div-right, div-div-eq-div-mul, mul-le-mul-left, eq-or-lt-of-le, pow-succ', lt-of-not-le, le-div-iff-mul-le}
+use mathlib.Core.Bool.{Bool, true, false, not}
+use Prim.Native.Nat.{ℕ, zero, suc, _+_, _*_, _-_, _^_, _/_, _≤_, _<_}
+use native.Mathlib.Nat.{le-trans, le-of-lt, lt-of-lt-of-le, mul-one, mul-comm, div-lt-iff-lt-mul, div-mul-le-self, lt-div-mul-add, add-div-right, div-div-eq-div-mul, pow-succ', le-div-iff-mul-le}
 use native.Mathlib.Omega.{arith}
 use lib.IntN.{ℤ, pos, negsuc}
-use lib.Dec.{T, ltb, leb, eqb, ltb→lt, nltb→le, le→leb, lit<, lit≤}
+use lib.Dec.{T, ltb, ltb→lt, nltb→le, le→leb, lit≤}
 use lib.Pow.{pow-pos}
-use lib.Ieee.{Float, nan, inf, fin, binary64, fits, up, down, lt, eq, le, add, mul, round, ofInt, toUnsigned, inFloat}
+use lib.Ieee.{Float, nan, inf, fin, binary64, fits, up, down, lt, add, mul, round, ofInt, toUnsigned, inFloat}
 use lib.Ieee.Back.{round-whole}
-use lib.Ieee.Bits.{is-true, is-false}
 use lib.Ieee.Exact.{HasValue}
 use lib.Ieee.Fits.{down-pos}
-use lib.Ieee.Nearest.{div-same}
-use lib.Ieee.Scale.{finite, round-same}
+use lib.Ieee.Scale.{round-same}
 use Rattle.laws.specs.Units.{Units, unitsOf}
-use Rattle.laws.proofs.Bools.{holds, fails, refuted}
+use Rattle.laws.proofs.Bools.{holds}
 use Rattle.laws.proofs.Compare.{lt-values}
-use Rattle.laws.proofs.Exact.{castable-value, finite-of-value, value-units, round-own, whole-value, mul-power, to-unsigned}
+use Rattle.laws.proofs.Exact.{castable-value, finite-of-value, value-units, round-own, mul-power, to-unsigned}
 use Rattle.laws.proofs.Order.{lt-not-self}
-use Rattle.laws.proofs.Units.{rescale, units-are, small-of-fits, add-units}
+use Rattle.laws.proofs.Units.{rescale, small-of-fits, add-units}
 use Rattle.math.specs.Sign.{sign, abs, copysign}
 use Rattle.math.specs.Whole.{whole, trunc, roundHalfAway, ceil}
-use Rattle.math.proofs.Sign.{abs-fits, abs-units, units-of-abs, copysign-round}
+use Rattle.math.proofs.Sign.{abs-fits, copysign-round}
 
 -- 2 ^ 52
 abbrev allWhole : Float

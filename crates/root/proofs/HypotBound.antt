@@ -6,20 +6,19 @@ use Prim.Native.Nat.{ℕ, _+_, _*_, _^_, _≤_, _<_}
 use native.Mathlib.Nat.{le-trans, le-of-lt, mul-le-mul, mul-le-mul-right, le-of-mul-le-mul-right, le-of-eq, add-mul, add-comm, mul-assoc, one-mul}
 use native.Mathlib.Omega.{arith}
 use lib.Arith.{le→nltb}
-use lib.Dec.{T, ltb, eqb, ltb→lt, nltb→le, lt→ltb, eqb→eq, lit<, lit≤}
+use lib.Dec.{T, ltb, eqb, ltb→lt, nltb→le, lt→ltb, eqb→eq, lit≤}
 use lib.Pow.{pow-pos}
-use lib.Ieee.{Float, nan, inf, fin, binary64, fits, add, mul, lt, le, eq, ofBits}
+use lib.Ieee.{Float, nan, binary64, fits, add, mul, lt, ofBits}
 use lib.Ieee.Bits.{is-true, cond-no}
 use lib.Ieee.Fits.{add-fits, eq→eqb, and-l, and-r}
 use lib.Ieee.Scale.{finite}
 use Rattle.laws.specs.Rounding.{Near, Close}
 use Rattle.laws.specs.Units.{Units, sign, unitsOf}
-use Rattle.laws.proofs.Bools.{le-of-test}
-use Rattle.laws.proofs.Compare.{lt-units, eq-units, le-units}
+use Rattle.laws.proofs.Compare.{lt-units, eq-units}
 use Rattle.laws.proofs.Error.{product, sum-of}
 use Rattle.laws.proofs.Units.{own-units, units-are, finite-of-units}
 use Rattle.math.specs.Sign.{abs}
-use Rattle.math.proofs.Sign.{abs-fits, abs-units}
+use Rattle.math.proofs.Sign.{abs-fits, abs-units, at-most-size}
 use Rattle.root.specs.Root.{NearestRoot}
 use Rattle.root.specs.Sqrt.{sqrt}
 use Rattle.root.specs.Hypot.{largest, small, inDomain, hypotOrdered, hypot, larger, Hypotenuse, IsHypot}
@@ -226,10 +225,8 @@ ordered u v a b t p q h hi =
 -- ---- the theorem
 -- inside the domain a side is finite and at most 2 ^ 1574 units
 pub in-domain : (x : Float) → T (fits binary64 x) → T (inDomain x) → T (finite x) × (unitsOf x ≤ 2 ^ 1574)
-unfolding inDomain abs
-in-domain nan t d = absurd (unfold le lt eq ofBits in d)
-in-domain (inf s) t d = absurd (unfold le lt eq ofBits in d)
-in-domain (fin s m e) t d = (tt, le-of-test (unitsOf (fin s m e)) (2 ^ 1574) (subst T (le-units (fin false m e) largest (unitsOf (fin s m e)) (2 ^ 1574) (refl, own-units (fin s m e) t tt .1) (unfold ofBits in (refl, refl))) d))
+unfolding inDomain
+in-domain x t d = at-most-size x largest (2 ^ 1574) t (unfold ofBits in (refl, refl)) d
 
 larger-first : (a b : ℕ) → b ≤ a → larger a b ≡ a
 larger-first a b h = cond-no (ltb a b) b a (le→nltb a b h)

@@ -1,7 +1,7 @@
 -- What the code of the hypotenuse owes, branch by branch.
 use mathlib.Core.Path.{_≡_, refl, sym, ap, _∙_}
 use mathlib.Core.Bool.{true, false, _&&_}
-use lib.Ieee.{Float, nan, binary64, lt, le, eq, add, mul, div, ofBits}
+use lib.Ieee.{Float, nan, binary64, lt, le, eq, add, mul, ofBits}
 use Rattle.math.specs.Sign.{abs}
 use Rattle.root.specs.Sqrt.{sqrt}
 use Rattle.root.specs.Hypot.{largest, small, inDomain, hypotOrdered, hypot}
@@ -39,8 +39,3 @@ module _ (x y a b r : Float) (e : a ≡ abs x) (f : b ≡ abs y) where
   pub outside : le a largest && le b largest ≡ false → r ≡ nan → r ≡ hypot x y
   unfolding hypot
   outside p g = rw (domain ∙ p) g
-
--- 0 / 0 is the NaN
-pub zero-by-zero : div binary64 (ofBits binary64 0) (ofBits binary64 0) ≡ nan
-unfolding div ofBits
-zero-by-zero = refl

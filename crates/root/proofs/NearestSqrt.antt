@@ -13,7 +13,7 @@ use lib.Ieee.Exact.{units-val}
 use lib.Ieee.Fits.{odd-fits}
 use lib.Ieee.Scale.{finite}
 use Rattle.laws.specs.Units.{Units, sign, unitsOf}
-use Rattle.laws.proofs.Numbers.{le-by, eq-by, sub-add}
+use Rattle.laws.proofs.Numbers.{sub-add}
 use Rattle.laws.proofs.Units.{Form, form, units-are, units-pos, same-float, finite-of-units}
 use Rattle.root.specs.Root.{NearestRoot, isqrt}
 use Rattle.root.specs.Sqrt.{places, digits, sqrt, Nearest, IsSqrt}

@@ -3,11 +3,11 @@ use mathlib.Core.Path.{_≡_, refl, sym, ap, _∙_, subst}
 use mathlib.Core.Bool.{Bool, true, false, _&&_, _||_, Bool·beq, true≢false}
 use mathlib.Core.Logic.{_⊎_, inl, inr}
 use Prim.Native.Nat.{ℕ, zero, suc, _+_, _*_, _-_, _^_, _/_, _%_, _≤_, _<_}
-use native.Mathlib.Nat.{pow-succ', le-trans, mul-le-mul, mul-le-mul-left, mul-assoc, mul-one, add-comm, zero-mul, lt-irrefl, mul-pos, zero-lt-suc}
+use native.Mathlib.Nat.{pow-succ', mul-le-mul, mul-le-mul-left, mul-assoc, mul-one, add-comm, zero-mul, lt-irrefl, mul-pos, zero-lt-suc}
 use native.Mathlib.Omega.{arith}
 use lib.IntN.{pos}
-use lib.Dec.{T, ltb, eqb, ltb→lt, lt→ltb, eqb→eq, lit≤}
-use lib.Pow.{pow-add, pow-pos, pow-mono}
+use lib.Dec.{T, eqb, lt→ltb, eqb→eq}
+use lib.Pow.{pow-add, pow-mono}
 use lib.Ieee.{Float, nan, inf, fin, binary64, fits, up, down, lt, eq, div, toBits, ofBits}
 use lib.Ieee.Bits.{ofBits-fits}
 use lib.Ieee.Fits.{down-pos, up-pos, and-l, and-i, eq→eqb}

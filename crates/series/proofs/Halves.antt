@@ -1,6 +1,6 @@
 -- What the code owes: a product by halves of 29 bits, and Horner's rule written out with its coefficients.
 use mathlib.Core.Path.{_≡_, refl, sym, ap, _∙_}
-use Prim.Native.Nat.{ℕ, _+_, _*_, _-_, _^_, _/_, _%_, _≤_, _<_}
+use Prim.Native.Nat.{ℕ, _+_, _*_, _-_, _^_, _/_, _%_, _≤_}
 use native.Mathlib.Nat.{mul-le-mul, div-le-of-le-mul, div-div-eq-div-mul, le-refl}
 use native.Mathlib.Omega.{arith}
 use Rattle.series.specs.Taylor.{sineDivisors, cosineDivisors}

@@ -1,9 +1,8 @@
 -- Horner's rule in whole units against the exact sum: one law, over the list of divisors, for every series.
 --
 -- A step takes the coefficient S / p, cut below by less than one unit, less Z times what follows over S. With z at most 2 / 3 and divisors of at least 6 the error e of what follows counts 2 / 3 fold, Z's own error 1 / 6 fold, and two cuts are added: e stays e, where it is at least 3 and half of Z's error more.
-use mathlib.Core.Path.{_≡_, refl, ap}
 use mathlib.Core.List.{List, [], _∷_}
-use Prim.Native.Nat.{ℕ, zero, suc, _+_, _*_, _-_, _^_, _/_, _≤_, _<_}
+use Prim.Native.Nat.{ℕ, _+_, _*_, _-_, _/_, _≤_, _<_}
 use native.Mathlib.Nat.{mul-le-mul-left, mul-le-mul-right, le-trans, mul-one, mul-le-mul, mul-pos, div-le-of-le-mul, div-mul-le-self, le-div-iff-mul-le}
 use native.Mathlib.Omega.{arith}
 use Rattle.series.specs.Taylor.{num, den}

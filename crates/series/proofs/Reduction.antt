@@ -1,14 +1,14 @@
 -- The nearest multiple of half pi, exactly and in whole units: `quarters` is nearest, and what is left is at most a quarter pi.
-use mathlib.Core.Path.{_≡_, refl, sym, ap, _∙_, subst}
+use mathlib.Core.Path.{_≡_, refl, ap}
 use mathlib.Core.Bool.{Bool, true, false, not}
-use Prim.Native.Nat.{ℕ, zero, suc, _+_, _*_, _-_, _^_, _/_, _%_, _≤_, _<_}
-use native.Mathlib.Nat.{mul-le-mul-left, mul-le-mul-right, le-of-mul-le-mul-right, div-mul-le-self, lt-div-mul-add, le-of-lt, le-trans, mul-pos, le-div-iff-mul-le, div-lt-iff-lt-mul, mul-comm, mul-assoc, lt-of-le-of-lt}
+use Prim.Native.Nat.{ℕ, suc, _+_, _*_, _-_, _/_, _≤_, _<_}
+use native.Mathlib.Nat.{mul-le-mul-left, mul-le-mul-right, div-mul-le-self, lt-div-mul-add, le-trans, le-div-iff-mul-le, div-lt-iff-lt-mul, mul-comm, mul-assoc, lt-of-le-of-lt}
 use native.Mathlib.Omega.{arith}
 use lib.Ieee.Nearest.{div-same}
-use lib.Dec.{T, leb, leb→le, nleb→lt, lit<, lit≤}
+use lib.Dec.{T, leb, leb→le, nleb→lt, lit≤}
 use Rattle.laws.proofs.Numbers.{eq-by}
 use Rattle.series.specs.Angle.{halfPi, whole, distance, quarters, NearestMultiple}
-use Rattle.series.proofs.Near.{Near, near-weaken}
+use Rattle.series.proofs.Near.{Near}
 
 -- ---- distances
 pub distance-cases : (a b : ℕ) (P : ℕ → Type 0) → ((u : ℕ) → u + b ≡ a → P u) → ((u : ℕ) → u + a ≡ b → P u) → P (distance a b)

@@ -1,21 +1,21 @@
 -- The sine and the cosine of any angle in units, against the exact sums of the reduced angle: within 23 units.
 --
 -- The budget: an angle's own cut is one unit, and k times half pi, cut to whole units, is at most k ≤ 10 units off: 11. The sums turn 11 units into 23 (proofs/Values). Where the cut puts the angle on the other side of its multiple, both values are below 11 units.
-use mathlib.Core.Path.{_≡_, refl, sym, ap, _∙_, subst}
+use mathlib.Core.Path.{_≡_, refl, sym, subst}
 use mathlib.Core.Bool.{Bool, true, false, not, _&&_, cond, true≢false}
 use mathlib.Core.List.{List, [], _∷_}
-use Prim.Native.Nat.{ℕ, zero, suc, _+_, _*_, _-_, _^_, _/_, _%_, _≤_, _<_}
-use native.Mathlib.Nat.{mul-le-mul, mul-le-mul-left, mul-le-mul-right, le-trans, le-of-lt, mul-pos, div-le-of-le-mul, le-of-mul-le-mul-right, mul-assoc}
+use Prim.Native.Nat.{ℕ, _+_, _*_, _-_, _/_, _%_, _≤_, _<_}
+use native.Mathlib.Nat.{mul-le-mul-left, mul-le-mul-right, le-trans, le-of-lt, mul-pos, div-le-of-le-mul, le-of-mul-le-mul-right}
 use native.Mathlib.Omega.{arith}
 use lib.Dec.{T, leb, ltb, ltb→lt, nltb→le, lit<, lit≤}
 use lib.Ieee.{unlike}
 use Rattle.series.specs.Taylor.{num, den, sineDivisors, cosineDivisors, sineNum, sineDen, cosineNum, cosineDen}
 use Rattle.series.specs.Angle.{halfPi, whole, distance, quarters, Signed, even, negative, turned, reduced, negated, gap, Close}
 use Rattle.series.specs.Units.{horner, square, sineUnits, cosineUnits, one, halfPiUnits, removed, rest, turnedMinus, turnedUnits}
-use Rattle.series.proofs.Near.{Near, near-weaken}
+use Rattle.series.proofs.Near.{Near}
 use Rattle.series.proofs.Horner.{AtLeast, num-le-den, horner-le}
 use Rattle.series.proofs.Values.{sine-far, cosine-far, sin-at-least, cos-at-least}
-use Rattle.series.proofs.Reduction.{distance-le, quarters-few, left-small, near-distance, sides-differ, sides-differ-below}
+use Rattle.series.proofs.Reduction.{distance-le, left-small, near-distance, sides-differ, sides-differ-below}
 
 -- ---- denominators are positive
 den-pos : (k zd : ℕ) (cs : List ℕ) → 0 < k → 0 < zd → AtLeast k cs → 0 < den zd cs

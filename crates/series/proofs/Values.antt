@@ -1,8 +1,8 @@
 -- The sine and the cosine of an angle of R units against the exact sums at n / d, both at most 4 / 5.
-use mathlib.Core.Path.{_≡_, refl, sym, ap, _∙_}
-use mathlib.Core.List.{List, [], _∷_}
-use Prim.Native.Nat.{ℕ, zero, suc, _+_, _*_, _-_, _^_, _/_, _≤_, _<_}
-use native.Mathlib.Nat.{mul-le-mul-left, mul-le-mul-right, le-trans, mul-one, one-mul, mul-le-mul, div-mul-le-self, le-of-mul-le-mul-right, div-le-of-le-mul}
+use mathlib.Core.Path.{_≡_}
+use mathlib.Core.List.{List, []}
+use Prim.Native.Nat.{ℕ, _+_, _*_, _-_, _/_, _≤_, _<_}
+use native.Mathlib.Nat.{le-trans, mul-one, one-mul, mul-le-mul, div-mul-le-self, le-of-mul-le-mul-right, div-le-of-le-mul}
 use native.Mathlib.Omega.{arith}
 use Rattle.series.specs.Taylor.{num, den, sineDivisors, cosineDivisors, sineNum, sineDen, cosineNum, cosineDen}
 use Rattle.series.specs.Units.{horner, square, sineUnits, cosineUnits}

@@ -1,6 +1,6 @@
 -- The sine and the cosine of any rational angle (01, "Sine, cosine"): the nearest multiple of half pi is removed, exactly, and Taylor's sum of what is left is taken with the sign of its quarter.
 use mathlib.Core.Bool.{Bool, _&&_, cond}
-use Prim.Native.Nat.{ℕ, suc, _+_, _*_, _-_, _/_, _%_, _≤_, _<_}
+use Prim.Native.Nat.{ℕ, _+_, _*_, _-_, _/_, _%_, _≤_, _<_}
 use lib.Dec.{leb, ltb, eqb}
 use lib.Ieee.{unlike}
 use Rattle.series.specs.Taylor.{sineNum, sineDen, cosineNum, cosineDen}

@@ -1,16 +1,14 @@
 -- The answers branch by branch, as the code has them, and the order of times.
-use mathlib.Core.Path.{_≡_, refl, sym, ap, _∙_, subst}
-use mathlib.Core.Bool.{Bool, true, false, not, cond, _&&_, _||_, Bool·beq}
-use mathlib.Core.Logic.{_⊎_, inl, inr}
-use Prim.Native.Nat.{ℕ, zero, suc, _+_, _*_, _^_, _≤_, _<_}
+use mathlib.Core.Path.{_≡_, refl, sym, ap, _∙_}
+use mathlib.Core.Bool.{Bool, true, false, cond, _||_, Bool·beq}
+use Prim.Native.Nat.{ℕ, _+_, _*_, _<_}
 use native.Mathlib.Omega.{arith}
-use lib.IntN.{pos}
 use lib.Dec.{T, ltb, eqb, ltb→lt, lt→ltb, eqb→eq, lit<}
-use lib.Ieee.{Float, nan, inf, fin, binary64, up, down, lt, le, eq, ofBits}
-use lib.Ieee.Bits.{is-true, is-false}
+use lib.Ieee.{Float, nan, inf, fin, up, down, lt, le, eq, ofBits}
+use lib.Ieee.Bits.{is-true}
 use lib.Ieee.Fits.{eq→eqb, and-l, down-pos}
 use lib.Ieee.Nearest.{closest}
-use Rattle.laws.proofs.Bools.{holds, fails, refuted, or-left, or-right, or-elim, same-test}
+use Rattle.laws.proofs.Bools.{holds, fails, refuted, or-right, or-elim, same-test}
 use Rattle.laws.proofs.Order.{eq-sym, eq-lt}
 use Rattle.laws.proofs.Whole.{closest-zero}
 use Rattle.time.specs.declared.Duration.{Duration}

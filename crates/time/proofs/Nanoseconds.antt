@@ -1,5 +1,5 @@
 -- A binary fraction of a second in nanoseconds: the product with 10 ^ 9 by halves of 26 bits, the quotient and the remainder by 2 ^ d, and the carry into seconds.
-use mathlib.Core.Path.{_≡_, refl, sym, ap, _∙_, subst}
+use mathlib.Core.Path.{_≡_, sym, ap, _∙_, subst}
 use Prim.Native.Nat.{ℕ, suc, _+_, _*_, _-_, _^_, _/_, _%_, _≤_, _<_}
 use native.Mathlib.Nat.{le-trans, le-of-lt, lt-of-lt-of-le, lt-of-le-of-lt, div-add-mod', mod-lt, mod-eq-of-lt, mul-lt-mul-of-pos-right, one-mul, div-le-self}
 use native.Mathlib.Omega.{arith}

@@ -2,7 +2,7 @@
 use mathlib.Core.Path.{_≡_, refl, sym, ap, _∙_, subst}
 use mathlib.Core.Bool.{true, false}
 use Prim.Native.Nat.{ℕ, zero, suc, _+_, _*_, _-_, _^_, _/_, _%_, _≤_, _<_}
-use native.Mathlib.Nat.{mul-assoc, add-comm, add-zero, lt-irrefl, lt-of-lt-of-le, le-trans, mul-le-mul-left, mul-lt-mul-of-pos-right}
+use native.Mathlib.Nat.{mul-assoc, add-comm, lt-of-lt-of-le, le-trans, mul-le-mul-left, mul-lt-mul-of-pos-right}
 use native.Mathlib.Omega.{arith}
 use lib.IntN.{pos}
 use lib.Dec.{T, ltb→lt, lit<, lit≤}

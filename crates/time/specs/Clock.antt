@@ -1,9 +1,9 @@
 -- Times, after document 01's paragraph on leaf helpers: 'hours to time: × 3600, nearest nanosecond, ties to even. Seconds to time rounds likewise. Time to hours: the seconds plus nanoseconds / 10^9, each as f64, then / 3600.'
-use mathlib.Core.Bool.{Bool, cond, not, _&&_, _||_}
+use mathlib.Core.Bool.{Bool, cond, not, _&&_}
 use Prim.Native.Nat.{ℕ, _*_, _^_, _/_, _%_}
 use lib.Dec.{eqb, ltb}
 use lib.IntN.{pos}
-use lib.Ieee.{Float, fin, binary64, add, mul, div, lt, le, ofBits, ofInt}
+use lib.Ieee.{Float, binary64, add, mul, div, lt, le, ofBits, ofInt}
 use lib.Ieee.Nearest.{closest}
 use lib.Ieee.Positive.{num, den}
 use Rattle.time.specs.declared.Duration.{Duration}

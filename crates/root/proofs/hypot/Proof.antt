@@ -1,4 +1,5 @@
-use Rattle.root.proofs.HypotCode.{second-larger, first-larger, outside, zero-by-zero}
+use Rattle.laws.proofs.Exact.{zero-by-zero}
+use Rattle.root.proofs.HypotCode.{second-larger, first-larger, outside}
 use borrow.Author.Needs.{needs}
 use Rattle.root.proofs.hypot.Statement.{statement}
 use Rattle.root.proofs.hypot.Tie as tie
