@@ -14,7 +14,7 @@ use Rattle.series.specs.Angle.{halfPi, whole, distance, quarters, Signed
 use Rattle.series.specs.Units.{horner, square, sineUnits, cosineUnits, one, halfPiUnits, removed, rest, turnedMinus, turnedUnits}
 use Rattle.series.proofs.Near.{Near}
 use Rattle.series.proofs.Horner.{AtLeast, num-le-den, horner-le}
-use Rattle.series.proofs.Values.{sine-far, cosine-far, sin-at-least, cos-at-least}
+use Rattle.series.proofs.Values.{sine-close, cosine-close, sine-at-least, cosine-at-least}
 use Rattle.series.proofs.Reduction.{distance-le, left-small, near-distance, sides-differ, sides-differ-below}
 
 -- ---- denominators are positive
@@ -25,11 +25,11 @@ den-pos k zd (c ∷ cs) hk hz a = mul-pos (omega (arith, a .0)) (mul-pos hz (den
 
 pub sine-proper : (d : ℕ) → 0 < d → 0 < sineDen d
 unfolding sineDen
-sine-proper d h = mul-pos h (den-pos 6 (d * d) sineDivisors (omega arith) (mul-pos h h) sin-at-least)
+sine-proper d h = mul-pos h (den-pos 6 (d * d) sineDivisors (omega arith) (mul-pos h h) sine-at-least)
 
 cosine-proper : (d : ℕ) → 0 < d → 0 < cosineDen d
 unfolding cosineDen den
-cosine-proper d h = mul-pos (lit< tt) (mul-pos (mul-pos h h) (den-pos 6 (d * d) cosineDivisors (omega arith) (mul-pos h h) cos-at-least))
+cosine-proper d h = mul-pos (lit< tt) (mul-pos (mul-pos h h) (den-pos 6 (d * d) cosineDivisors (omega arith) (mul-pos h h) cosine-at-least))
 
 -- ---- signs
 pub gap-same : (s : Bool) (a b : ℕ) → gap s a s b ≡ distance a b
@@ -145,11 +145,11 @@ turned-close more x a b same r = record { proper = proper (even q); close = rw s
 
     go : (v t u : Bool) → t ≡ ltb x (removed x) → u ≡ ltb (a * whole) (quarters a b * halfPi * b)
         → gap (unlike w (v && t)) (cond v (sineUnits one (rest x)) (cosineUnits one (rest x)) * cond v (sineDen d) (cosineDen d)) (unlike w (v && u)) (cond v (sineNum n d) (cosineNum n d) * one) ≤ 23 * cond v (sineDen d) (cosineDen d)
-    go true true true e f = near-gap (unlike w true) one _ _ _ 22 23 23 (omega arith) (omega arith) (sine-far one (rest x) n d (lit< tt) (r .small) (r .left) (r .near))
-    go true false false e f = near-gap (unlike w false) one _ _ _ 22 23 23 (omega arith) (omega arith) (sine-far one (rest x) n d (lit< tt) (r .small) (r .left) (r .near))
+    go true true true e f = near-gap (unlike w true) one _ _ _ 22 23 23 (omega arith) (omega arith) (sine-close one (rest x) n d (lit< tt) (r .small) (r .left) (r .near))
+    go true false false e f = near-gap (unlike w false) one _ _ _ 22 23 23 (omega arith) (omega arith) (sine-close one (rest x) n d (lit< tt) (r .small) (r .left) (r .near))
     go true true false e f = far _ _ (r .sides true false e f (λ z. absurd (true≢false z)))
     go true false true e f = far _ _ (r .sides false true e f (λ z. absurd (true≢false (sym z))))
-    go false t u e f = near-gap (unlike w false) one _ _ _ 15 14 23 (omega arith) (omega arith) (cosine-far one (rest x) n d (lit< tt) (r .small) (r .left) (r .near))
+    go false t u e f = near-gap (unlike w false) one _ _ _ 15 14 23 (omega arith) (omega arith) (cosine-close one (rest x) n d (lit< tt) (r .small) (r .left) (r .near))
 
 -- it is at most one
 pub turned-most : (more x a b : ℕ) → Reduced x a b → turnedUnits more x ≤ one

@@ -1,4 +1,6 @@
 -- The sine and the cosine of an angle of R units against the exact sums at n / d, both at most 4 / 5.
+--
+-- The square of the angle is off by 8 / 5 of the angle's error and one cut, the series by at most e (proofs/Horner), the sine by the angle's error, 4 / 5 of e and one cut, the cosine by half of the square's error, a third of e and one cut.
 use mathlib.Core.Path.{_≡_}
 use mathlib.Core.List.{List, []}
 use Prim.Native.Nat.{ℕ, _+_, _*_, _-_, _/_, _≤_, _<_}
@@ -9,13 +11,13 @@ use Rattle.series.specs.Units.{horner, square, sineUnits, cosineUnits}
 use Rattle.series.proofs.Near.{Near, near-weaken, near-mul, near-minus}
 use Rattle.series.proofs.Horner.{AtLeast, num-le-den, horner-le, horner-near, exact-le}
 
-pub sin-at-least : AtLeast 6 sineDivisors
+pub sine-at-least : AtLeast 6 sineDivisors
 unfolding AtLeast sineDivisors
-sin-at-least = omega arith
+sine-at-least = omega arith
 
-pub cos-at-least : AtLeast 6 cosineDivisors
+pub cosine-at-least : AtLeast 6 cosineDivisors
 unfolding AtLeast cosineDivisors
-cos-at-least = omega arith
+cosine-at-least = omega arith
 
 pub square-small : (S R : ℕ) → 0 < S → 5 * R ≤ 4 * S → 3 * (R * R / S) ≤ 2 * S
 square-small S R hS h = le-of-mul-le-mul-right {k = S} (go (R * R / S) (div-mul-le-self (R * R) S) (mul-le-mul h h)) hS
@@ -40,7 +42,7 @@ module _ (S R n d o u oz uz e : ℕ) (hS : 0 < S) (hR : 5 * R ≤ 4 * S) (hn : 5
   sine-near o′ u′ ko ku =
       simp (mul-one, one-mul) at
       (near-mul S 1 5 4 5 {o = o′} {u = u′} hS (omega arith) (omega arith) hR (weak (num (n * n) (d * d) sineDivisors) (den (d * d) sineDivisors) (num-le-den (n * n) (d * d) sineDivisors)) (omega arith) (omega arith) f
-      (horner-near S (R * R / S) (n * n) (d * d) oz uz e 1 sineDivisors hS (square-small S R hS hR) square-le sin-at-least ho hu (omega arith) near-square))
+      (horner-near S (R * R / S) (n * n) (d * d) oz uz e 1 sineDivisors hS (square-small S R hS hR) square-le sine-at-least ho hu (omega arith) near-square))
     where
       weak : (N D : ℕ) → N ≤ D → 5 * N ≤ 5 * (1 * D)
       weak N D h = omega arith
@@ -54,7 +56,7 @@ module _ (S R n d o u oz uz e : ℕ) (hS : 0 < S) (hR : 5 * R ≤ 4 * S) (hn : 5
       (one S (2 * (d * d * den (d * d) cosineDivisors)))
       (simp one-mul at
       (near-mul S 2 3 2 3 {o = u′} {u = o′} hS (omega arith) (omega arith) (square-small S R hS hR) (weak (num (n * n) (d * d) cosineDivisors) (den (d * d) cosineDivisors) (num-le-den (n * n) (d * d) cosineDivisors)) (omega arith) (omega arith) near-square
-      (horner-near S (R * R / S) (n * n) (d * d) oz uz e 1 cosineDivisors hS (square-small S R hS hR) square-le cos-at-least ho hu (omega arith) near-square))))
+      (horner-near S (R * R / S) (n * n) (d * d) oz uz e 1 cosineDivisors hS (square-small S R hS hR) square-le cosine-at-least ho hu (omega arith) near-square))))
     where
       weak : (N D : ℕ) → N ≤ D → 3 * N ≤ 3 * (1 * D)
       weak N D h = omega arith
@@ -62,17 +64,9 @@ module _ (S R n d o u oz uz e : ℕ) (hS : 0 < S) (hR : 5 * R ≤ 4 * S) (hn : 5
       half : (Z P : ℕ) → 3 * Z ≤ 2 * S → P ≤ S → Z * P ≤ S * 2 * S
       half Z P h k = omega (arith, mul-le-mul h k)
 
--- the cosine of 0 is 1
-pub cos-at-zero : (d : ℕ) → cosineNum 0 d ≡ cosineDen d
-unfolding cosineNum cosineDen num den
-cos-at-zero d = go (2 * (d * d * den (d * d) cosineDivisors)) (num (0 * 0) (d * d) cosineDivisors)
-  where
-    go : (C N : ℕ) → C - 0 * 0 * N ≡ C
-    go C N = omega arith
+-- an angle that is 11 units off, as the removal of up to ten cut half pis leaves it: its square is 19 units off, the series 13, and the value at most 23
+pub sine-close : (S R n d : ℕ) → 0 < S → 5 * R ≤ 4 * S → 5 * n ≤ 4 * d → Near S R n d 11 11 → Near S (sineUnits S R) (sineNum n d) (sineDen d) 22 23
+sine-close S R n d hS hR hn f = sine-near S R n d 11 11 18 19 13 hS hR hn f (omega arith) (omega arith) (omega arith) (omega arith) 22 23 (omega arith) (omega arith)
 
--- an angle with an error of eleven, as k * (half pi in whole units) leaves it: 23 units, so that sine and cosine need no table of the multiples
-pub sine-far : (S R n d : ℕ) → 0 < S → 5 * R ≤ 4 * S → 5 * n ≤ 4 * d → Near S R n d 11 11 → Near S (sineUnits S R) (sineNum n d) (sineDen d) 22 23
-sine-far S R n d hS hR hn f = sine-near S R n d 11 11 18 19 13 hS hR hn f (omega arith) (omega arith) (omega arith) (omega arith) 22 23 (omega arith) (omega arith)
-
-pub cosine-far : (S R n d : ℕ) → 0 < S → 5 * R ≤ 4 * S → 5 * n ≤ 4 * d → Near S R n d 11 11 → Near S (cosineUnits S R) (cosineNum n d) (cosineDen d) 15 14
-cosine-far S R n d hS hR hn f = cosine-near S R n d 11 11 18 19 13 hS hR hn f (omega arith) (omega arith) (omega arith) (omega arith) 15 14 (omega arith) (omega arith)
+pub cosine-close : (S R n d : ℕ) → 0 < S → 5 * R ≤ 4 * S → 5 * n ≤ 4 * d → Near S R n d 11 11 → Near S (cosineUnits S R) (cosineNum n d) (cosineDen d) 15 14
+cosine-close S R n d hS hR hn f = cosine-near S R n d 11 11 18 19 13 hS hR hn f (omega arith) (omega arith) (omega arith) (omega arith) 15 14 (omega arith) (omega arith)
