@@ -1,8 +1,10 @@
 -- Laws on the sums.
-pub mod Near
-pub mod Horner
-pub mod Values
-pub mod Sums
-pub mod Reduction
 pub mod Halves
+pub mod Horner
+pub mod Near
+pub mod Reduction
+pub mod Rise
+pub mod Slope
+pub mod Sums
 pub mod Turned
+pub mod Values

@@ -18,7 +18,7 @@ use Rattle.series.proofs.Values.{sine-close, cosine-close, sine-at-leas
 use Rattle.series.proofs.Reduction.{distance-le, left-small, near-distance, sides-differ, sides-differ-below}
 
 -- ---- denominators are positive
-den-pos : (k zd : ℕ) (cs : List ℕ) → 0 < k → 0 < zd → AtLeast k cs → 0 < den zd cs
+pub den-pos : (k zd : ℕ) (cs : List ℕ) → 0 < k → 0 < zd → AtLeast k cs → 0 < den zd cs
 unfolding den AtLeast
 den-pos k zd [] hk hz a = omega arith
 den-pos k zd (c ∷ cs) hk hz a = mul-pos (omega (arith, a .0)) (mul-pos hz (den-pos k zd cs hk hz (a .1)))
@@ -27,7 +27,7 @@ pub sine-proper : (d : ℕ) → 0 < d → 0 < sineDen d
 unfolding sineDen
 sine-proper d h = mul-pos h (den-pos 6 (d * d) sineDivisors (omega arith) (mul-pos h h) sine-at-least)
 
-cosine-proper : (d : ℕ) → 0 < d → 0 < cosineDen d
+pub cosine-proper : (d : ℕ) → 0 < d → 0 < cosineDen d
 unfolding cosineDen den
 cosine-proper d h = mul-pos (lit< tt) (mul-pos (mul-pos h h) (den-pos 6 (d * d) cosineDivisors (omega arith) (mul-pos h h) cosine-at-least))
 

@@ -1,9 +1,8 @@
 -- The sine and the cosine of an angle of R units against the exact sums at n / d, both at most 4 / 5.
 --
 -- The square of the angle is off by 8 / 5 of the angle's error and one cut, the series by at most e (proofs/Horner), the sine by the angle's error, 4 / 5 of e and one cut, the cosine by half of the square's error, a third of e and one cut.
-use mathlib.Core.Path.{_≡_}
 use mathlib.Core.List.{List, []}
-use Prim.Native.Nat.{ℕ, _+_, _*_, _-_, _/_, _≤_, _<_}
+use Prim.Native.Nat.{ℕ, _+_, _*_, _/_, _≤_, _<_}
 use native.Mathlib.Nat.{le-trans, mul-one, one-mul, mul-le-mul, div-mul-le-self, le-of-mul-le-mul-right, div-le-of-le-mul}
 use native.Mathlib.Omega.{arith}
 use Rattle.series.specs.Taylor.{num, den, sineDivisors, cosineDivisors, sineNum, sineDen, cosineNum, cosineDen}
@@ -37,7 +36,7 @@ module _ (S R n d o u oz uz e : ℕ) (hS : 0 < S) (hR : 5 * R ≤ 4 * S) (hn : 5
   square-le : n * n ≤ d * d
   square-le = mul-le-mul {n₁ = n} {m₁ = n} (omega arith) (omega arith)
 
-  sine-near : (o′ u′ : ℕ) → 5 * o + 4 * e ≤ 5 * o′ → 5 * u + 4 * e + 5 ≤ 5 * u′ → Near S (sineUnits S R) (sineNum n d) (sineDen d) o′ u′
+  pub sine-near : (o′ u′ : ℕ) → 5 * o + 4 * e ≤ 5 * o′ → 5 * u + 4 * e + 5 ≤ 5 * u′ → Near S (sineUnits S R) (sineNum n d) (sineDen d) o′ u′
   unfolding sineUnits square sineNum sineDen
   sine-near o′ u′ ko ku =
       simp (mul-one, one-mul) at
@@ -47,7 +46,7 @@ module _ (S R n d o u oz uz e : ℕ) (hS : 0 < S) (hR : 5 * R ≤ 4 * S) (hn : 5
       weak : (N D : ℕ) → N ≤ D → 5 * N ≤ 5 * (1 * D)
       weak N D h = omega arith
 
-  cosine-near : (o′ u′ : ℕ) → 3 * uz + 2 * e + 6 ≤ 6 * o′ → 3 * oz + 2 * e ≤ 6 * u′ → Near S (cosineUnits S R) (cosineNum n d) (cosineDen d) o′ u′
+  pub cosine-near : (o′ u′ : ℕ) → 3 * uz + 2 * e + 6 ≤ 6 * o′ → 3 * oz + 2 * e ≤ 6 * u′ → Near S (cosineUnits S R) (cosineNum n d) (cosineDen d) o′ u′
   unfolding cosineUnits square cosineNum cosineDen num den
   cosine-near o′ u′ ko ku =
       near-weaken (omega arith) (omega arith)

@@ -1,0 +1,6 @@
+-- Laws on the arcs.
+pub mod Lower
+pub mod Searching
+pub mod Steps
+pub mod Surrounding
+pub mod Upper

@@ -1,0 +1,4 @@
+-- Arcsine and arctangent.
+pub mod Arcsine
+pub mod Grid
+pub mod Search
