@@ -1,4 +1,6 @@
 -- Laws on the arcs.
+pub mod Arcsines
+pub mod Enclosing
 pub mod Lower
 pub mod Searching
 pub mod Steps

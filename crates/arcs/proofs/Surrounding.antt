@@ -18,45 +18,45 @@ use Rattle.arcs.specs.Arcsine.{arcsineSteps, upperSteps, scale, halfPiSt
 use Rattle.arcs.proofs.Lower.{Enclosed, arcsine-encloses, lower-at}
 use Rattle.arcs.proofs.Upper.{Encloses, upper-encloses, upper-below-top, Scaled, scaled}
 
--- ---- angles: n / d, or half pi less n / d
-pub data Angle : Type 0 where
-  up : ℕ → ℕ → Angle
-  down : ℕ → ℕ → Angle
+-- ---- places of angles: n / d, or half pi less n / d
+pub data Place : Type 0 where
+  up : ℕ → ℕ → Place
+  down : ℕ → ℕ → Place
 
 -- the exact sine is at most, or at least, a / b
-abbrev pub SineAtMost : Angle → ℕ → ℕ → Type 0
+abbrev pub SineAtMost : Place → ℕ → ℕ → Type 0
 SineAtMost (up n d) a b = sineNum n d * b ≤ a * sineDen d
 SineAtMost (down n d) a b = cosineNum n d * b ≤ a * cosineDen d
 
-abbrev pub SineAtLeast : Angle → ℕ → ℕ → Type 0
+abbrev pub SineAtLeast : Place → ℕ → ℕ → Type 0
 SineAtLeast (up n d) a b = a * sineDen d ≤ sineNum n d * b
 SineAtLeast (down n d) a b = a * cosineDen d ≤ cosineNum n d * b
 
 -- the angle is at most, or at least, t / s
-abbrev pub Before : Angle → ℕ → ℕ → Type 0
+abbrev pub Before : Place → ℕ → ℕ → Type 0
 Before (up n d) t s = n * s ≤ t * d
 Before (down n d) t s = halfPi * d * s ≤ t * whole * d + n * whole * s
 
-abbrev pub After : Angle → ℕ → ℕ → Type 0
+abbrev pub After : Place → ℕ → ℕ → Type 0
 After (up n d) t s = t * d ≤ n * s
 After (down n d) t s = t * whole * d + n * whole * s ≤ halfPi * d * s
 
 -- the first is at most 1 / w below the second
-abbrev pub Close : ℕ → Angle → Angle → Type 0
+abbrev pub Close : ℕ → Place → Place → Type 0
 Close w (up n d) (up m e) = w * (m * d) ≤ w * (n * e) + d * e
 Close w (down n d) (down m e) = w * (n * e) ≤ w * (m * d) + d * e
 Close w (up n d) (down m e) = w * (halfPi * (d * e)) ≤ w * (whole * (m * d + n * e)) + whole * (d * e)
 Close w (down n d) (up m e) = w * (whole * (m * d + n * e)) ≤ w * (halfPi * (d * e)) + whole * (d * e)
 
 -- a true fraction, below a quarter of pi: so the angle is what is left of itself when the nearest multiple of half pi is taken off
-abbrev pub Proper : Angle → Type 0
+abbrev pub Proper : Place → Type 0
 Proper (up n d) = (0 < d) × (2 * n * whole < halfPi * d)
 Proper (down n d) = (0 < d) × (2 * n * whole < halfPi * d)
 
 -- the answer t / s lies between two angles, at most 2 ^ -46 apart, whose exact sines enclose a / b
 pub record Surrounded (t s a b : ℕ) : Type 0 where
-  pub lo : Angle
-  pub hi : Angle
+  pub lo : Place
+  pub hi : Place
   pub lo-proper : Proper lo
   pub hi-proper : Proper hi
   pub at-most : SineAtMost lo a b

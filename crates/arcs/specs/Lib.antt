@@ -1,4 +1,5 @@
 -- Arcsine and arctangent.
 pub mod Arcsine
+pub mod Enclosure
 pub mod Grid
 pub mod Search
