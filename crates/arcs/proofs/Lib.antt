@@ -2,6 +2,8 @@
 pub mod Arcsines
 pub mod Enclosing
 pub mod Lower
+pub mod Octant
+pub mod Placing
 pub mod Searching
 pub mod Steps
 pub mod Surrounding

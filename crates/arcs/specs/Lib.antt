@@ -1,5 +1,6 @@
 -- Arcsine and arctangent.
 pub mod Arcsine
+pub mod Arctangent
 pub mod Enclosure
 pub mod Grid
 pub mod Search
