@@ -12,7 +12,7 @@ use Rattle.arcs.proofs.Enclosing.{up-at-most, up-at-least, down-at-most
 use Rattle.arcs.proofs.Surrounding.{Place, up, down, Proper, SineAtMost, SineAtLeast, Before, After, Close, Surrounded}
 
 abbrev angle : Place → Angle
-angle (up n d) = record { top = n; bottom = d }
+angle (up n d) = record { top = whole * n; bottom = whole * d }
 angle (down n d) = record { top = halfPi * d - n * whole; bottom = whole * d }
 
 -- half pi less n / d has n / d left to half pi
@@ -23,7 +23,7 @@ left-over n d h = sym (sub-add (halfPi * d) (n * whole) (less whole halfPi h))
     less w p l = omega arith
 
 proper : (l : Place) → Proper l → 0 < angle l .bottom
-proper (up n d) h = h .0
+proper (up n d) h = mul-pos (lit< tt) (h .0)
 proper (down n d) h = mul-pos (lit< tt) (h .0)
 
 low : (l : Place) (a b : ℕ) → Proper l → SineAtMost l a b → IsAtMost (sineSum false (angle l .top) (angle l .bottom)) a b
@@ -35,33 +35,42 @@ high (up n d) a b h k = up-at-least n d (h .0) (h .1) a b k
 high (down n d) a b h k = down-at-least n d (h .0) (h .1) a b (halfPi * d - n * whole) (left-over n d (h .1)) k
 
 before : (l : Place) (t s : ℕ) → Proper l → Before l t s → angle l .top * s ≤ t * angle l .bottom
-before (up n d) t s h k = k
+before (up n d) t s h k = go whole
+  where
+    go : (w : ℕ) → w * n * s ≤ t * (w * d)
+    go w = omega (arith, mul-le-mul-left w k)
 before (down n d) t s h k = go whole halfPi (halfPi * d - n * whole) (left-over n d (h .1)) k
   where
     go : (w p x : ℕ) → x + n * w ≡ p * d → p * d * s ≤ t * w * d + n * w * s → x * s ≤ t * (w * d)
     go w p x e k = omega (arith, ap (λ z. z * s) e)
 
 after : (l : Place) (t s : ℕ) → Proper l → After l t s → t * angle l .bottom ≤ angle l .top * s
-after (up n d) t s h k = k
+after (up n d) t s h k = go whole
+  where
+    go : (w : ℕ) → t * (w * d) ≤ w * n * s
+    go w = omega (arith, mul-le-mul-left w k)
 after (down n d) t s h k = go whole halfPi (halfPi * d - n * whole) (left-over n d (h .1)) k
   where
     go : (w p x : ℕ) → x + n * w ≡ p * d → t * w * d + n * w * s ≤ p * d * s → t * (w * d) ≤ x * s
     go w p x e k = omega (arith, ap (λ z. z * s) e)
 
 close : (W : ℕ) (l m : Place) → Proper l → Proper m → Close W l m → W * (angle m .top * angle l .bottom) ≤ W * (angle l .top * angle m .bottom) + angle l .bottom * angle m .bottom
-close W (up n d) (up m e) g h k = k
+close W (up n d) (up m e) g h k = go whole (mul-le-mul-left (whole * whole) k)
+  where
+    go : (w : ℕ) → w * w * (W * (m * d)) ≤ w * w * (W * (n * e) + d * e) → W * (w * m * (w * d)) ≤ W * (w * n * (w * e)) + w * d * (w * e)
+    go w k = omega (arith, k)
 close W (down n d) (down m e) g h k = go whole halfPi (halfPi * d - n * whole) (halfPi * e - m * whole) (left-over n d (g .1)) (left-over m e (h .1)) (mul-le-mul-left (whole * whole) k)
   where
     go : (w p x y : ℕ) → x + n * w ≡ p * d → y + m * w ≡ p * e → w * w * (W * (n * e)) ≤ w * w * (W * (m * d) + d * e) → W * (y * (w * d)) ≤ W * (x * (w * e)) + w * d * (w * e)
     go w p x y i j k = omega (arith, ap (λ z. W * (w * d) * z) j, ap (λ z. W * (w * e) * z) i)
-close W (up n d) (down m e) g h k = go whole halfPi (halfPi * e - m * whole) (left-over m e (h .1)) k
+close W (up n d) (down m e) g h k = go whole halfPi (halfPi * e - m * whole) (left-over m e (h .1)) (mul-le-mul-left whole k)
   where
-    go : (w p y : ℕ) → y + m * w ≡ p * e → W * (p * (d * e)) ≤ W * (w * (m * d + n * e)) + w * (d * e) → W * (y * d) ≤ W * (n * (w * e)) + d * (w * e)
-    go w p y j k = omega (arith, ap (λ z. W * d * z) j)
-close W (down n d) (up m e) g h k = go whole halfPi (halfPi * d - n * whole) (left-over n d (g .1)) k
+    go : (w p y : ℕ) → y + m * w ≡ p * e → w * (W * (p * (d * e))) ≤ w * (W * (w * (m * d + n * e)) + w * (d * e)) → W * (y * (w * d)) ≤ W * (w * n * (w * e)) + w * d * (w * e)
+    go w p y j k = omega (arith, ap (λ z. W * (w * d) * z) j)
+close W (down n d) (up m e) g h k = go whole halfPi (halfPi * d - n * whole) (left-over n d (g .1)) (mul-le-mul-left whole k)
   where
-    go : (w p x : ℕ) → x + n * w ≡ p * d → W * (w * (m * d + n * e)) ≤ W * (p * (d * e)) + w * (d * e) → W * (m * (w * d)) ≤ W * (x * e) + w * d * e
-    go w p x i k = omega (arith, ap (λ z. W * e * z) i)
+    go : (w p x : ℕ) → x + n * w ≡ p * d → w * (W * (w * (m * d + n * e))) ≤ w * (W * (p * (d * e)) + w * (d * e)) → W * (w * m * (w * d)) ≤ W * (x * (w * e)) + w * d * (w * e)
+    go w p x i k = omega (arith, ap (λ z. W * (w * e) * z) i)
 
 pub is-arcsine : (t s a b : ℕ) → Surrounded t s a b → IsArcsine t s a b
 is-arcsine t s a b r =

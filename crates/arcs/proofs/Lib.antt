@@ -1,5 +1,6 @@
 -- Laws on the arcs.
 pub mod Arcsines
+pub mod Arctangents
 pub mod Enclosing
 pub mod Lower
 pub mod Octant
@@ -7,4 +8,5 @@ pub mod Placing
 pub mod Searching
 pub mod Steps
 pub mod Surrounding
+pub mod Turning
 pub mod Upper

@@ -1,8 +1,9 @@
--- What document 01 asks of the arcsine: the answer lies between two angles at most 2 ^ -46 apart whose sines, by the sum of the reduced angle, enclose the argument.
+-- What document 01 asks of the arcsine: the answer lies between two angles at most 2 ^ -46 apart whose sines, by the sum of the reduced angle, enclose the argument. And of the arctangent: between two such angles y × cosine - x × sine changes its sign.
 use mathlib.Core.Path.{_≡_}
-use mathlib.Core.Bool.{false}
+use mathlib.Core.Bool.{Bool, true, false}
 use Prim.Native.Nat.{ℕ, _+_, _*_, _^_, _≤_, _<_}
-use Rattle.series.specs.Angle.{Signed, sineSum}
+use lib.Ieee.{unlike}
+use Rattle.series.specs.Angle.{halfPi, whole, Signed, sineSum, cosineSum}
 
 -- the angle top / bottom
 pub record Angle : Type 0 where
@@ -30,3 +31,41 @@ pub record IsArcsine (t s a b : ℕ) : Type 0 where
   pub close : 2 ^ 46 * (hi .top * lo .bottom) ≤ 2 ^ 46 * (lo .top * hi .bottom) + lo .bottom * hi .bottom
   pub low : IsAtMost (sineSum false (lo .top) (lo .bottom)) a b
   pub high : IsAtLeast (sineSum false (hi .top) (hi .bottom)) a b
+
+-- ---- the arctangent
+-- ± p is at most ± q
+abbrev pub Leq : Bool → ℕ → Bool → ℕ → Type 0
+Leq false p false q = p ≤ q
+Leq true p true q = q ≤ p
+Leq true p false q = Unit {0}
+Leq false p true q = p + q ≤ 0
+
+-- at an angle x sin ≤ y cos, for a y not below 0 and an x with its sign set where `left` is true
+pub record NotPast (left : Bool) (x y : ℕ) (at : Angle) : Type 0 where
+  pub sine-proper : 0 < sineSum false (at .top) (at .bottom) .bottom
+  pub cosine-proper : 0 < cosineSum false (at .top) (at .bottom) .bottom
+  pub holds : Leq (unlike left (sineSum false (at .top) (at .bottom) .minus)) (x * sineSum false (at .top) (at .bottom) .top * cosineSum false (at .top) (at .bottom) .bottom) (cosineSum false (at .top) (at .bottom) .minus) (y * cosineSum false (at .top) (at .bottom) .top * sineSum false (at .top) (at .bottom) .bottom)
+
+-- and y cos ≤ x sin
+pub record NotShort (left : Bool) (x y : ℕ) (at : Angle) : Type 0 where
+  pub sine-proper : 0 < sineSum false (at .top) (at .bottom) .bottom
+  pub cosine-proper : 0 < cosineSum false (at .top) (at .bottom) .bottom
+  pub holds : Leq (cosineSum false (at .top) (at .bottom) .minus) (y * cosineSum false (at .top) (at .bottom) .top * sineSum false (at .top) (at .bottom) .bottom) (unlike left (sineSum false (at .top) (at .bottom) .minus)) (x * sineSum false (at .top) (at .bottom) .top * cosineSum false (at .top) (at .bottom) .bottom)
+
+-- t / s lies in the quadrant of the signs: up to half pi, or from half pi to pi
+abbrev pub Quadrant : Bool → ℕ → ℕ → Type 0
+Quadrant false t s = t * whole ≤ halfPi * s
+Quadrant true t s = (halfPi * s ≤ t * whole) × (t * whole ≤ 2 * (halfPi * s))
+
+-- t / s is an angle of the point (± x, y), up to a common scale of x and y
+pub record IsArctangent (left : Bool) (x y t s : ℕ) : Type 0 where
+  pub quadrant : Quadrant left t s
+  pub lo : Angle
+  pub hi : Angle
+  pub lo-proper : 0 < lo .bottom
+  pub hi-proper : 0 < hi .bottom
+  pub before : lo .top * s ≤ t * lo .bottom
+  pub after : t * hi .bottom ≤ hi .top * s
+  pub close : 2 ^ 46 * (hi .top * lo .bottom) ≤ 2 ^ 46 * (lo .top * hi .bottom) + lo .bottom * hi .bottom
+  pub low : NotPast left x y lo
+  pub high : NotShort left x y hi
