@@ -10,3 +10,4 @@ pub mod Steps
 pub mod Surrounding
 pub mod Turning
 pub mod Upper
+pub mod Worked

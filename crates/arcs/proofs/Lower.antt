@@ -1,5 +1,5 @@
 -- The arcsine below a quarter pi: the two angles around the greatest step, 4 A - 1 and 4 A + 5 over 2 ^ 51, have sines that enclose the argument.
-use mathlib.Core.Path.{_≡_, refl, ap}
+use mathlib.Core.Path.{_≡_, ap}
 use mathlib.Core.Bool.{Bool}
 use mathlib.Core.List.{List, []}
 use mathlib.Core.Logic.{_⊎_, inl, inr}
@@ -8,15 +8,14 @@ use native.Mathlib.Nat.{div-mul-le-self, lt-div-mul-add, le-of-lt, eq-or-lt-of-l
 use native.Mathlib.Omega.{arith}
 use lib.Arith.{lt→nleb}
 use lib.Dec.{T, T-not, leb→le, nleb→lt, le→leb, lit<}
-use Rattle.series.specs.Taylor.{sineDivisors, sineNum, sineDen}
-use Rattle.series.specs.Units.{horner, square, sineUnits}
+use Rattle.series.specs.Taylor.{sineNum, sineDen}
 use Rattle.series.proofs.Near.{Near}
 use Rattle.series.proofs.Horner.{AtLeast}
 use Rattle.arcs.specs.Search.{Found}
 use Rattle.arcs.specs.Grid.{lastStep, sineStep}
 use Rattle.arcs.specs.Arcsine.{atMost, arcsineSteps}
 use Rattle.arcs.proofs.Searching.{found, found-is}
-use Rattle.arcs.proofs.Steps.{sineStep-near, sineStep-climbs, steep-at, lower, upper}
+use Rattle.arcs.proofs.Steps.{sine-at-zero, sineStep-near, sineStep-climbs, steep-at, lower, upper}
 
 pub atMost-falls : (X A : ℕ) → A < lastStep → T (atMost X (A + 1)) → T (atMost X A)
 unfolding atMost
@@ -25,13 +24,9 @@ atMost-falls X A h t = le→leb (sineStep A) X (go (sineStep A) (sineStep (A + 1
     go : (P Q : ℕ) → P + 247 ≤ Q → Q ≤ X → P ≤ X
     go P Q a b = omega arith
 
-sine-0 : sineStep 0 ≡ 0
-unfolding sineStep sineUnits square horner sineDivisors
-sine-0 = refl
-
 atMost-zero : (X : ℕ) → T (atMost X 0)
 unfolding atMost
-atMost-zero X = rw sine-0 (le→leb 0 X (omega arith))
+atMost-zero X = rw sine-at-zero (le→leb 0 X (omega arith))
 
 pub arcsine-found : (X : ℕ) → Found lastStep (atMost X) (arcsineSteps X)
 unfolding arcsineSteps

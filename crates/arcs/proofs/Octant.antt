@@ -16,7 +16,7 @@ use Rattle.arcs.specs.Search.{Found}
 use Rattle.arcs.specs.Grid.{lastStep, sineStep, cosineStep}
 use Rattle.arcs.specs.Arctangent.{notAbove, arctangentSteps}
 use Rattle.arcs.proofs.Searching.{found, found-is}
-use Rattle.arcs.proofs.Steps.{Steep, steep-at, sineStep-near, cosineStep-near, sineStep-climbs, sineStep-sharp}
+use Rattle.arcs.proofs.Steps.{sine-at-zero, Steep, steep-at, sineStep-near, cosineStep-near, sineStep-climbs, sineStep-sharp}
 
 -- ---- what the test says of the products
 whole-le : (x y : ℕ) → x / 2 ^ 58 ≤ y / 2 ^ 58 → x ≤ y + 2 ^ 58
@@ -50,13 +50,9 @@ notAbove-falls U W hU hW A h t =
     go : (s s′ c c′ : ℕ) → s + 247 ≤ s′ → c′ ≤ c + 5 → U * s′ ≤ W * c′ + 2 ^ 58 → U * s ≤ W * c
     go s s′ c c′ i j k = omega (arith, mul-le-mul-left U i, mul-le-mul-left W j)
 
-sine-0 : sineStep 0 ≡ 0
-unfolding sineStep sineUnits square horner sineDivisors
-sine-0 = refl
-
 notAbove-zero : (U W : ℕ) → T (notAbove U W 0)
 unfolding notAbove
-notAbove-zero U W = rw sine-0 (le→leb (U * 0 / 2 ^ 58) (W * cosineStep 0 / 2 ^ 58) (le-trans (whole-horner (U * 0) 0 (omega arith)) (omega arith)))
+notAbove-zero U W = rw sine-at-zero (le→leb (U * 0 / 2 ^ 58) (W * cosineStep 0 / 2 ^ 58) (le-trans (whole-horner (U * 0) 0 (omega arith)) (omega arith)))
 
 pub arctangent-found : (U W : ℕ) → Found lastStep (notAbove U W) (arctangentSteps U W)
 unfolding arctangentSteps

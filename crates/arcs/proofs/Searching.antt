@@ -6,6 +6,7 @@ use Prim.Native.Nat.{ℕ, zero, suc, _+_, _-_, _^_, _/_, _≤_, _<_}
 use native.Mathlib.Nat.{le-antisymm, pow-succ', add-zero, zero-add}
 use native.Mathlib.Omega.{arith}
 use lib.Dec.{T, T-not, not-T, leb, leb→le, le→leb}
+use lib.Ieee.Fits.{and-i, and-l, and-r}
 use Rattle.arcs.specs.Search.{greatest, upTo, greatestTo, Found}
 
 -- passes, and the next does not
@@ -48,18 +49,6 @@ unique test h A B a b = le-antisymm (not-lt→le (not-less test h B A b (a .pass
 pub is-greatest : (f : ℕ) (test : ℕ → Bool) → Falls test → T (test 0) → T (not (test (2 ^ f))) → (A : ℕ) → Last test A → A ≡ greatest f test 0
 is-greatest f test h p q A a = unique test h A (greatest f test 0) a (last f test 0 p (subst (λ n. T (not (test n))) (sym (zero-add (2 ^ f))) q))
 
-and-in : (a b : Bool) → T a → T b → T (a && b)
-and-in true b p q = q
-and-in false b p q = absurd p
-
-and-0 : (a b : Bool) → T (a && b) → T a
-and-0 true b p = tt
-and-0 false b p = absurd p
-
-and-1 : (a b : Bool) → T (a && b) → T b
-and-1 true b p = p
-and-1 false b p = absurd p
-
 nand : (a b : Bool) → T (not (a && b)) → T a → T (not b)
 nand true b p q = p
 nand false b p q = absurd q
@@ -67,26 +56,26 @@ nand false b p q = absurd q
 pub upTo-falls : (N : ℕ) (test : ℕ → Bool) → ((A : ℕ) → A < N → T (test (A + 1)) → T (test A)) → Falls (upTo N test)
 unfolding upTo
 upTo-falls N test h A t =
-    let l = leb→le (A + 1) N (and-0 (leb (A + 1) N) (test (A + 1)) t) in
-    and-in (leb A N) (test A) (le→leb A N (omega arith)) (h A (omega arith) (and-1 (leb (A + 1) N) (test (A + 1)) t))
+    let l = leb→le (A + 1) N (and-l (leb (A + 1) N) (test (A + 1)) t) in
+    and-i (leb A N) (test A) (le→leb A N (omega arith)) (h A (omega arith) (and-r (leb (A + 1) N) (test (A + 1)) t))
 
 found-last : (N : ℕ) (test : ℕ → Bool) (A : ℕ) → Found N test A → Last (upTo N test) A
 unfolding upTo
 found-last N test A r =
-    record { passes = and-in (leb A N) (test A) (le→leb A N (r .within)) (r .passes); next = not-T (leb (A + 1) N && test (A + 1)) (λ t. T-not (test (A + 1)) (r .next (omega (arith, leb→le (A + 1) N (and-0 (leb (A + 1) N) (test (A + 1)) t)))) (and-1 (leb (A + 1) N) (test (A + 1)) t)) }
+    record { passes = and-i (leb A N) (test A) (le→leb A N (r .within)) (r .passes); next = not-T (leb (A + 1) N && test (A + 1)) (λ t. T-not (test (A + 1)) (r .next (omega (arith, leb→le (A + 1) N (and-l (leb (A + 1) N) (test (A + 1)) t)))) (and-r (leb (A + 1) N) (test (A + 1)) t)) }
 
 last-found : (N : ℕ) (test : ℕ → Bool) (A : ℕ) → Last (upTo N test) A → Found N test A
 unfolding upTo
 last-found N test A r =
-    record { within = leb→le A N (and-0 (leb A N) (test A) (r .passes)); passes = and-1 (leb A N) (test A) (r .passes); next = λ l. nand (leb (A + 1) N) (test (A + 1)) (r .next) (le→leb (A + 1) N (omega arith)) }
+    record { within = leb→le A N (and-l (leb A N) (test A) (r .passes)); passes = and-r (leb A N) (test A) (r .passes); next = λ l. nand (leb (A + 1) N) (test (A + 1)) (r .next) (le→leb (A + 1) N (omega arith)) }
 
 starts : (N : ℕ) (test : ℕ → Bool) → T (test 0) → T (upTo N test 0)
 unfolding upTo
-starts N test p = and-in (leb 0 N) (test 0) (le→leb 0 N (omega arith)) p
+starts N test p = and-i (leb 0 N) (test 0) (le→leb 0 N (omega arith)) p
 
 ends : (f N : ℕ) (test : ℕ → Bool) → N < 2 ^ f → T (not (upTo N test (2 ^ f)))
 unfolding upTo
-ends f N test h = not-T (leb (2 ^ f) N && test (2 ^ f)) (λ t. never (2 ^ f) (leb→le (2 ^ f) N (and-0 (leb (2 ^ f) N) (test (2 ^ f)) t)) h)
+ends f N test h = not-T (leb (2 ^ f) N && test (2 ^ f)) (λ t. never (2 ^ f) (leb→le (2 ^ f) N (and-l (leb (2 ^ f) N) (test (2 ^ f)) t)) h)
   where
     never : (m : ℕ) → m ≤ N → N < m → ⊥
     never m a b = omega arith

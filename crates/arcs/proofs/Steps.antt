@@ -6,8 +6,8 @@ use Prim.Native.Nat.{ℕ, suc, _+_, _*_, _-_, _^_, _/_, _≤_, _<_}
 use native.Mathlib.Nat.{mul-le-mul-left, mul-le-mul-right, le-trans, le-of-mul-le-mul-left, le-of-mul-le-mul-right}
 use native.Mathlib.Omega.{arith}
 use lib.Dec.{T, T-not, lit<}
-use Rattle.series.specs.Taylor.{sineNum, sineDen, cosineNum, cosineDen}
-use Rattle.series.specs.Units.{square}
+use Rattle.series.specs.Taylor.{sineDivisors, sineNum, sineDen, cosineNum, cosineDen}
+use Rattle.series.specs.Units.{horner, square, sineUnits}
 use Rattle.series.proofs.Near.{Near}
 use Rattle.series.proofs.Horner.{AtLeast}
 use Rattle.series.proofs.Values.{sine-near, cosine-near}
@@ -53,7 +53,7 @@ upper S k m n M N D P X a b o u hS s f h p q = le-of-mul-le-mul-left {k = S} (la
     last : P * D ≤ S * N → suc X * (D * b) ≤ P * (D * b) → a * S * D ≤ (X * b + b) * D → S * (a * D) ≤ S * (N * b)
     last i j k = omega (arith, mul-le-mul-right b i)
 
-on-grid : (A : ℕ) → Near (2 ^ 58) (512 * A) (4 * A) (2 ^ 51) 0 0
+pub on-grid : (A : ℕ) → Near (2 ^ 58) (512 * A) (4 * A) (2 ^ 51) 0 0
 on-grid A = record { over = omega arith; under = omega arith }
 
 pub sineStep-near : (A : ℕ) → A ≤ lastStep + 1 → Near (2 ^ 58) (sineStep A) (sineNum (4 * A) (2 ^ 51)) (sineDen (2 ^ 51)) 4 5
@@ -106,3 +106,7 @@ certified A X Z h e p q = go (sineStep A) (sineStep (A + 1)) ((2 ^ 58 - Z / 2) /
 
     go : (P Q g : ℕ) → A * A ≤ 2 ^ 40 * Z + 2 ^ 40 → 2 ^ 90 * (P + 512) ≤ 2 ^ 90 * (Q + 9) + (A + 1) * (A + 1) → 2 ^ 50 * g + Z ≤ 2 ^ 59 + 1 → X + 10 ≤ P + g → X < Q
     go P Q g i j k l = omega arith
+
+pub sine-at-zero : sineStep 0 ≡ 0
+unfolding sineStep sineUnits square horner sineDivisors
+sine-at-zero = refl

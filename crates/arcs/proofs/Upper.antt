@@ -19,6 +19,7 @@ use Rattle.arcs.specs.Search.{Found}
 use Rattle.arcs.specs.Grid.{lastStep}
 use Rattle.arcs.specs.Arcsine.{rest, restStep, fitsIn, upperSteps, scaleFrom, scale}
 use Rattle.arcs.proofs.Searching.{found, found-is}
+use Rattle.arcs.proofs.Steps.{on-grid}
 
 -- ---- the exact fraction at n / (e * f)
 unfoldable pub restNum : ℕ → ℕ → ℕ
@@ -95,10 +96,6 @@ upper S e m n M N D P E he s f r l = le-trans (mul-le-mul-right D l) (le-of-mul-
   where
     go : (z x y : ℕ) → 6 * (z * M) + 5 * (x * D) ≤ 6 * (z * N) + 5 * (y * D) → 18 * z + 5 * (y * S) ≤ 5 * (x * S) → z * (P * D) ≤ z * (N * S)
     go z x y h r = omega (arith, mul-le-mul-left S h, mul-le-mul-left z f, mul-le-mul-right D r)
-
--- ---- at the grid's points
-on-grid : (b : ℕ) → Near (2 ^ 58) (512 * b) (4 * b) (2 ^ 51) 0 0
-on-grid b = record { over = omega arith; under = omega arith }
 
 pub restStep-near : (f b : ℕ) → 0 < f → b ≤ lastStep + 1 → Near (2 ^ 58) (restStep f b) (restNum (4 * b) (2 ^ 51 * f)) (restDen (2 ^ 51) (2 ^ 51 * f)) 3 5
 unfolding restStep

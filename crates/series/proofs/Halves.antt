@@ -1,6 +1,6 @@
 -- What the code owes: a product by halves of 29 bits, and Horner's rule written out with its coefficients.
 use mathlib.Core.Path.{_≡_, refl, sym, ap, _∙_}
-use Prim.Native.Nat.{ℕ, _+_, _*_, _-_, _^_, _/_, _%_, _≤_}
+use Prim.Native.Nat.{ℕ, _+_, _*_, _-_, _^_, _/_, _%_, _≤_, _<_}
 use native.Mathlib.Nat.{mul-le-mul, div-le-of-le-mul, div-div-eq-div-mul, le-refl}
 use native.Mathlib.Omega.{arith}
 use Rattle.series.specs.Taylor.{sineDivisors, cosineDivisors}
@@ -77,3 +77,10 @@ sine-is r z q s e f g = cc
 pub cosine-is : (r z q p : ℕ) → z ≡ r * r / 2 ^ 58 → q ≡ horner (2 ^ 58) z 1 cosineDivisors → p ≡ z * q / 2 ^ 58 → 2 ^ 58 - p / 2 ≡ cosineUnits (2 ^ 58) r
 unfolding cosineUnits square
 cosine-is r z q p e f g = ap (λ t. 2 ^ 58 - t / 2) g ∙ ap (λ t. 2 ^ 58 - t) (div-div-eq-div-mul (z * q) (2 ^ 58) 2) ∙ cc
+
+-- an angle that is at most one is not above it
+pub above : {P : Type 0} (r : ℕ) → r ≤ 2 ^ 58 → 2 ^ 58 < r → P
+above {P} r h k = absurd (no r h k)
+  where
+    no : (r : ℕ) → r ≤ 2 ^ 58 → 2 ^ 58 < r → ⊥
+    no r h k = omega arith

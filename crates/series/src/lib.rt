@@ -3,7 +3,7 @@
 // Angles and values are numbers of units; ONE of them is 1. A product of two is exact up to the cut to a whole unit, the
 // coefficients are cut the same way, and Horner's rule has no division. The error of the sums is a few units: proofs/Values.
 ghost use mathlib.Core.Path.{_≡_};
-ghost use Prim.Native.Nat.{_*_, _/_, _-_, _^_, _≤_};
+ghost use Prim.Native.Nat.{_*_, _/_, _-_, _^_, _≤_, _<_};
 ghost use Rattle.series.specs.Taylor.{sineDivisors, cosineDivisors};
 ghost use Rattle.series.specs.Units.{horner, sineUnits, cosineUnits};
 
@@ -67,7 +67,7 @@ fn cosine_series(z: u64) -> u64
 
 // The sine of an angle of r units, in units; 0 for an angle above one.
 pub fn sine(r: u64) -> u64
-    ensures { λ s. ⌜ (r ≤ 2 ^ 58 → s ≡ sineUnits (2 ^ 58) r) × (s ≤ 2 ^ 58) ⌝ }
+    ensures { λ s. ⌜ (r ≤ 2 ^ 58 → s ≡ sineUnits (2 ^ 58) r) × (2 ^ 58 < r → s ≡ 0) × (s ≤ 2 ^ 58) ⌝ }
 {
     if r > ONE {
         return 0;
@@ -78,9 +78,9 @@ pub fn sine(r: u64) -> u64
 
 // The cosine of an angle of r units, in units; 0 for an angle above one.
 pub fn cosine(r: u64) -> u64
-    ensures { λ s. ⌜ (r ≤ 2 ^ 58 → s ≡ cosineUnits (2 ^ 58) r) × (s ≤ 2 ^ 58) ⌝ }
+    ensures { λ s. ⌜ (r ≤ 2 ^ 58 → s ≡ cosineUnits (2 ^ 58) r) × (2 ^ 58 < r → s ≡ 0) × (s ≤ 2 ^ 58) ⌝ }
 {
-    if r > ONE {
+    if ONE < r {
         return 0;
     }
     let z = mul58(r, r);
