@@ -41,6 +41,12 @@ pub fn all() {
     let angles: Vec<(f64, f64)> = (0..COUNT).map(|_| (random.unit() * 32.0 - 16.0, 0.0)).collect();
     report("sin", &angles, |x, _| port::sin(x), |x, _| x.sin());
     report("cos", &angles, |x, _| port::cos(x), |x, _| x.cos());
+    for (name, low, high) in [("asin, 0 to 0.7", 0.0, 0.7), ("asin, 0.71 to 1", 0.71, 1.0), ("asin, 0 to 1", 0.0, 1.0)] {
+        let sines: Vec<(f64, f64)> = (0..COUNT).map(|_| (low + random.unit() * (high - low), 0.0)).collect();
+        report(name, &sines, |x, _| port::asin(x), |x, _| x.asin());
+    }
+    let points: Vec<(f64, f64)> = (0..COUNT).map(|_| (random.unit() - 0.5, random.unit() - 0.5)).collect();
+    report("atan2", &points, port::atan2, f64::atan2);
     report("wrap360", &pairs, |_, y| port::wrap360(y), |_, y| crate::compare::whole_fold(y));
     report("wrap180", &pairs, |_, y| port::wrap180(y), |_, y| crate::compare::half_fold(y));
     report("seconds to nanoseconds", &pairs, |x, _| f64::from(port::time_nanos(x)), |x, _| f64::from(crate::compare::time(x).2));

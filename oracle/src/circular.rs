@@ -3,12 +3,12 @@
 use std::f64::consts::FRAC_PI_4;
 
 use crate::big::{parts, units, Big};
-use crate::inputs::Random;
+use crate::inputs::{neighbour, Random};
 use crate::listed::math::to_radians;
 
 /// Half pi is taken to be HALF_PI / SCALE.
-const HALF_PI: u128 = 157_079_632_679_489_661_923;
-const SCALE: u128 = 100_000_000_000_000_000_000;
+pub const HALF_PI: u128 = 157_079_632_679_489_661_923;
+pub const SCALE: u128 = 100_000_000_000_000_000_000;
 
 /// The divisors of the sums: 1 - z / 6 * (1 - z / 20 * (...)), times the angle; 1 - z / 2 * (...).
 const SINE: [u64; 10] = [6, 20, 42, 72, 110, 156, 210, 272, 342, 420];
@@ -93,6 +93,23 @@ pub fn error(y: f64, exact: &Exact) -> (bool, f64) {
     (gap <= bound, gap.ratio(&bound))
 }
 
+/// The fraction 1.
+pub fn one() -> Exact {
+    Exact { minus: false, top: Big::from(1u64), bottom: Big::from(1u64) }
+}
+
+/// Whether x * f is at most y * g, exactly; x and y must be finite.
+pub fn at_most(x: f64, f: &Exact, y: f64, g: &Exact) -> bool {
+    // Both sides times both bottoms and 2^1074.
+    let (a, b) = (units(x).mul(&f.top).mul(&g.bottom), units(y).mul(&g.top).mul(&f.bottom));
+    match (x.is_sign_negative() != f.minus, y.is_sign_negative() != g.minus) {
+        (false, false) => a <= b,
+        (true, true) => b <= a,
+        (true, false) => true,
+        (false, true) => a.add(&b) == Big::from(0u64),
+    }
+}
+
 /// Multiples of 1/1024 degree in a turn.
 const FINE: u64 = 360 * 1024;
 
@@ -104,7 +121,7 @@ pub fn inputs(count: usize) -> Vec<f64> {
     let turns = (1..=20).map(|j| f64::from(j) * FRAC_PI_4);
     for x in turns.chain([0.0, f64::MIN_POSITIVE, 16.0]).chain(small) {
         for step in -40..=40 {
-            let y = f64::from_bits(x.to_bits().wrapping_add_signed(step));
+            let y = neighbour(x, step);
             if (0.0..=16.0).contains(&y) {
                 out.extend([y, -y]);
             }

@@ -5,7 +5,7 @@ use std::time::Duration;
 use crate::big::{units, Big};
 use crate::inputs::{Random, LIMITS};
 use crate::listed::math;
-use crate::{circular, method, port};
+use crate::{arcs, circular, method, port};
 
 /// Runs a comparison `count` times and reports it; `case` answers the words of a difference.
 fn run(name: &str, count: u64, mut case: impl FnMut(u64, &mut Random) -> Option<String>) -> bool {
@@ -174,6 +174,59 @@ fn bound(name: &str, angles: &[f64], ours: fn(f64) -> f64, sum: fn(f64) -> circu
     outside == 0
 }
 
+/// The arcsine or the arctangent: its inputs, the port's answers, the method's and the standard library's, and document 01's rule.
+/// The arcsine makes no use of the second argument.
+struct ArcFunction {
+    name: &'static str,
+    input: fn(u64, &mut Random) -> (f64, f64),
+    ours: fn(f64, f64) -> f64,
+    plain: fn(f64, f64) -> f64,
+    library: fn(f64, f64) -> f64,
+    holds: fn(f64, f64, f64) -> bool,
+}
+
+/// The port's zeros of either sign are equal: the standard library's arctangent gets 0 for both.
+const ARC_FUNCTIONS: [ArcFunction; 2] = [
+    ArcFunction {
+        name: "asin",
+        input: |i, random| (arcs::arcsine_input(i, random), 0.0),
+        ours: |x, _| port::asin(x),
+        plain: |x, _| method::arcsine(x),
+        library: |x, _| x.asin(),
+        holds: |x, _, t| arcs::arcsine_holds(x, t),
+    },
+    ArcFunction {
+        name: "atan2",
+        input: arcs::arctangent_input,
+        ours: port::atan2,
+        plain: method::arctangent,
+        library: |y, x| (y + 0.0).atan2(x + 0.0),
+        holds: arcs::arctangent_holds,
+    },
+];
+
+/// Compares an arc function with the method, checks exactly that answers are enclosed, and reports the largest difference from
+/// the standard library's.
+fn arc_function(f: &ArcFunction, count: u64) -> bool {
+    let (mut largest, mut at) = (0.0, (0.0, 0.0));
+    let equal = run(f.name, count, |i, random| {
+        let (a, b) = (f.input)(i, random);
+        let (got, wanted) = ((f.ours)(a, b), (f.plain)(a, b));
+        let gap = (got - (f.library)(a, b)).abs();
+        if gap > largest {
+            (largest, at) = (gap, (a, b));
+        }
+        (!same(got, wanted)).then(|| format!("{a:e} {b:e}: {got:e}, wanted {wanted:e}"))
+    });
+    println!("{}: the largest difference from the standard library's is {largest:e}, at {:e} {:e}", f.name, at.0, at.1);
+    let enclosed = run(&format!("{}, enclosed", f.name), 100_000, |i, random| {
+        let (a, b) = (f.input)(i, random);
+        let t = (f.ours)(a, b);
+        (!(f.holds)(a, b, t)).then(|| format!("{a:e} {b:e}: {t:e}"))
+    });
+    equal && enclosed
+}
+
 /// Compares every function that is ported so far.
 pub fn all(count: u64) -> bool {
     let mut good = true;
@@ -195,6 +248,9 @@ pub fn all(count: u64) -> bool {
     let angles = circular::inputs(100_000);
     good &= bound("sin", &angles, port::sin, circular::sine_sum);
     good &= bound("cos", &angles, port::cos, circular::cosine_sum);
+    for f in &ARC_FUNCTIONS {
+        good &= arc_function(f, count);
+    }
     let unary: [(&str, fn(f64) -> f64, fn(f64) -> f64); 7] = [
         ("trunc", port::trunc, math::trunc),
         ("round", port::round, math::round),

@@ -43,7 +43,7 @@ impl Random {
     /// A neighbour of x, at most two patterns off.
     pub fn near(&mut self, x: f64) -> f64 {
         let step = self.below(5) as i64 - 2;
-        f64::from_bits(x.to_bits().wrapping_add_signed(step))
+        neighbour(x, step)
     }
 
     /// Any of these, in turn.
@@ -64,6 +64,11 @@ impl Random {
             _ => self.middling(),
         }
     }
+}
+
+/// The float so many patterns above x, or below.
+pub fn neighbour(x: f64, step: i64) -> f64 {
+    f64::from_bits(x.to_bits().wrapping_add_signed(step))
 }
 
 /// Where a function of the port turns.

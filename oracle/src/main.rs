@@ -2,6 +2,7 @@
 //! `oracle vectors`: writes the records and answers that the gate replays.
 //! `oracle bench`: measures the port beside the Rust.
 
+mod arcs;
 mod bench;
 mod big;
 mod circular;

@@ -1,4 +1,6 @@
-//! The sine and the cosine by whole numbers, as elementary.md has the method, in 128-bit arithmetic.
+//! Sine, cosine, arcsine and arctangent by whole numbers, as elementary.md has the methods, in 128-bit arithmetic.
+
+use crate::big::parts;
 
 /// One, and half pi, in units of 2^-58.
 const ONE: u128 = 1 << 58;
@@ -17,10 +19,15 @@ fn sine_of_rest(rest: u128) -> u128 {
     rest * horner(rest * rest / ONE, 1, &divisors) / ONE
 }
 
-fn cosine_of_rest(rest: u128) -> u128 {
+/// 2 f^2 times the versine, 1 - cosine, of rest / f.
+fn versine_of_rest(rest: u128, f: u128) -> u128 {
     let divisors = [12, 30, 56, 90, 132, 182, 240, 306, 380];
     let z = rest * rest / ONE;
-    ONE - z * horner(z, 1, &divisors) / (2 * ONE)
+    z * horner(z / (f * f), 1, &divisors) / ONE
+}
+
+fn cosine_of_rest(rest: u128) -> u128 {
+    ONE - versine_of_rest(rest, 1) / 2
 }
 
 /// How many half pis are nearest to an angle in units, by the exact fraction.
@@ -60,5 +67,83 @@ pub fn cosine(x: f64) -> f64 {
         turned(x, 1)
     } else {
         f64::NAN
+    }
+}
+
+/// A quarter pi and half pi in steps of 2^-49, cut.
+pub const LAST_STEP: u128 = 442_139_859_501_777;
+pub const HALF_PI_STEPS: u128 = 884_279_719_003_555;
+
+/// The units in a step.
+const STEP: u128 = 512;
+
+/// The greatest step, up to the last, that passes a test which fails from some step on; by halves.
+fn greatest(test: impl Fn(u128) -> bool) -> u128 {
+    (0..49).rev().fold(0, |low, bit| {
+        let next = low + (1u128 << bit);
+        if next <= LAST_STEP && test(next) {
+            next
+        } else {
+            low
+        }
+    })
+}
+
+/// The arcsine of x units, in eighths of a step.
+fn arcsine_eighths(x: u128) -> u128 {
+    if x < sine_of_rest(LAST_STEP * STEP) {
+        return 8 * greatest(|a| sine_of_rest(a * STEP) <= x);
+    }
+    let rest = ONE - x;
+    if rest == 0 {
+        return 8 * HALF_PI_STEPS;
+    }
+    // Next to one the angle that is left to half pi is sought f times as large.
+    let mut f = 1;
+    while rest * f * f < 1 << 54 {
+        f *= 2;
+    }
+    8 * HALF_PI_STEPS - 8 * greatest(|b| versine_of_rest(b * STEP, f) <= 2 * rest * f * f) / f
+}
+
+pub fn arcsine(x: f64) -> f64 {
+    if !(0.0..=1.0).contains(&x) {
+        f64::NAN
+    } else if x < 2f64.powi(-17) {
+        x
+    } else {
+        arcsine_eighths((x * ONE as f64) as u128) as f64 / 2f64.powi(52)
+    }
+}
+
+/// The arctangent of |v| / |u| in steps, |u| being the larger.
+fn octant(u: f64, v: f64) -> u128 {
+    let ((u, high), (v, low)) = (parts(u), parts(v));
+    // u in 58 digits, and v cut to the same unit.
+    let shift = u.leading_zeros() - 6;
+    let w = (v << shift).checked_shr((high - low) as u32).unwrap_or(0);
+    let (u, w) = (u128::from(u << shift), u128::from(w));
+    greatest(|a| u * sine_of_rest(a * STEP) / ONE <= w * cosine_of_rest(a * STEP) / ONE)
+}
+
+pub fn arctangent(y: f64, x: f64) -> f64 {
+    if !(y.is_finite() && x.is_finite()) {
+        return f64::NAN;
+    }
+    let steep = y.abs() > x.abs();
+    let (u, v) = if steep { (y, x) } else { (x, y) };
+    // On an axis v is 0.
+    let a = if v == 0.0 { 0 } else { octant(u, v) };
+    let steps = match (steep, x < 0.0) {
+        (false, false) => a,
+        (true, false) => HALF_PI_STEPS - a,
+        (false, true) => 2 * HALF_PI_STEPS - a,
+        (true, true) => HALF_PI_STEPS + a + 1,
+    };
+    let size = steps as f64 / 2f64.powi(49);
+    if y < 0.0 {
+        -size
+    } else {
+        size
     }
 }

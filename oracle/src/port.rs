@@ -18,6 +18,8 @@ exports! {
     hypot = elementary_hypot(x: f64, y: f64) -> f64;
     sin = elementary_sin(x: f64) -> f64;
     cos = elementary_cos(x: f64) -> f64;
+    asin = elementary_asin(x: f64) -> f64;
+    atan2 = elementary_atan2(y: f64, x: f64) -> f64;
     trunc = port_trunc(x: f64) -> f64;
     round = port_round(x: f64) -> f64;
     ceil = port_ceil(x: f64) -> f64;

@@ -3,6 +3,7 @@
 use std::fs;
 use std::path::Path;
 
+use crate::arcs::{arcsine_input, arctangent_input};
 use crate::compare::{angle_input, half_fold, hypot_input, hypotenuse_holds, time, whole_fold};
 use crate::inputs::{Random, LIMITS};
 use crate::listed::math;
@@ -66,6 +67,9 @@ fn answer(which: u64, a: u64, b: u64) -> u64 {
         11 => pattern(whole_fold(x + 180.0)),
         13 => pattern(method::sine(x)),
         14 => pattern(method::cosine(x)),
+        15 => pattern(method::arcsine(x)),
+        // Of the arctangent's words the first is y.
+        16 => pattern(method::arctangent(x, y)),
         20 => u64::from(math::is_integral(x)),
         21 => u64::from(math::is_effectively_zero(x, y)),
         22 => pattern(f64::from(math::round_to_i32(x))),
@@ -82,6 +86,9 @@ fn answer(which: u64, a: u64, b: u64) -> u64 {
         33 => u64::from(nanos(b) < 1_000_000_000 && (a, nanos(b)) <= (1 << 53, 0)),
         34 => refusing(method::sine(x)),
         35 => refusing(method::cosine(x)),
+        36 => refusing(method::arcsine(x)),
+        37 => refusing(method::arctangent(x, y)),
+        38 => u64::from(x.is_finite()),
         _ => unreachable!(),
     }
 }
@@ -96,6 +103,11 @@ fn arguments(which: u64, i: u64, random: &mut Random) -> (u64, u64) {
             (x.to_bits(), y.to_bits())
         }
         13 | 14 | 34 | 35 => (angle_input(i, random).to_bits(), 0),
+        15 | 36 => (arcsine_input(i, random).to_bits(), 0),
+        16 | 37 => {
+            let (y, x) = arctangent_input(i, random);
+            (y.to_bits(), x.to_bits())
+        }
         21 => (random.near(x * 1e-12).to_bits(), x.to_bits()),
         24 => (random.word() >> random.below(64), 0),
         31 => (random.word() >> random.below(64), random.below(1_000_000_000)),
@@ -109,7 +121,7 @@ pub fn write() {
     let folder = Path::new(env!("CARGO_MANIFEST_DIR")).join("../crates/elementary_main");
     let mut random = Random::new(11);
     let (mut records, mut answers) = (Vec::new(), String::new());
-    for which in (0..=14).chain(20..=35) {
+    for which in (0..=16).chain(20..=38) {
         for i in 0..EACH {
             let (a, b) = arguments(which, i, &mut random);
             for word in [which, a, b] {

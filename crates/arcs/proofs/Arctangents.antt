@@ -1,6 +1,6 @@
 -- The arctangent's two angles as document 01 asks for them: each turn is a rational angle, its sums after the reduction are the sine and the cosine of what is left, with their signs, and the order of the products is kept.
 use mathlib.Core.Path.{_≡_, refl, sym, ap, _∙_, subst, subst₂}
-use mathlib.Core.Bool.{Bool, true, false, true≢false}
+use mathlib.Core.Bool.{Bool, true, false, not, true≢false}
 use mathlib.Core.Logic.{_⊎_, inl, inr}
 use Prim.Native.Nat.{ℕ, _+_, _*_, _-_, _^_, _≤_, _<_}
 use native.Mathlib.Nat.{mul-pos, mul-le-mul-right, le-of-mul-le-mul-right, zero-mul}
@@ -8,33 +8,74 @@ use native.Mathlib.Omega.{arith}
 use lib.Dec.{ltb, lit<, lit≤}
 use lib.Ieee.{unlike}
 use Rattle.series.specs.Taylor.{sineNum, sineDen, cosineNum, cosineDen}
-use Rattle.series.specs.Angle.{halfPi, whole, Signed, even, negative, turned, negated, sineSum, cosineSum}
+use Rattle.series.specs.Angle.{halfPi, whole, Signed, even, negative, turned, reduced, negated, sineSum, cosineSum}
 use Rattle.series.proofs.Turned.{sine-proper, cosine-proper}
-use Rattle.arcs.specs.Enclosure.{Angle, Leq, NotPast, NotShort, Quadrant, IsArctangent}
+use Rattle.arcs.specs.Enclosure.{Angle, Leq, Nearer, Farther, Quadrant, IsArctangent}
 use Rattle.arcs.proofs.Turning.{c, Sine, Cosine, same-sine, same-cosine, after-sum, before-sum, below-or-none}
 use Rattle.arcs.proofs.Placing.{Turn, up, down, over, back, size, Side, Proper, NotUnder, NotOver, Around}
 
 abbrev angle : Turn → Angle
 angle v = record { top = size v; bottom = whole * 2 ^ 51 }
 
--- ---- the two sums of an angle, given
-not-past : (left : Bool) (x y : ℕ) (at : Angle) (S C : Signed) → sineSum false (at .top) (at .bottom) ≡ S → cosineSum false (at .top) (at .bottom) ≡ C → 0 < S .bottom → 0 < C .bottom
-    → Leq (unlike left (S .minus)) (x * S .top * C .bottom) (C .minus) (y * C .top * S .bottom) → NotPast left x y at
-not-past left x y at S C e f p q h =
-    record {
-      sine-proper = subst (λ s. 0 < s .bottom) (sym e) p;
-      cosine-proper = subst (λ c. 0 < c .bottom) (sym f) q;
-      holds = subst₂ (λ s c. Leq (unlike left (s .minus)) (x * s .top * c .bottom) (c .minus) (y * c .top * s .bottom)) (sym e) (sym f) h;
-    }
+-- ---- signs: with both set the order turns round
+flip : (a b : Bool) (p q : ℕ) → Leq a p b q → Leq (not b) q (not a) p
+flip false false p q h = h
+flip true true p q h = h
+flip true false p q h = tt
+flip false true p q h = omega arith
 
-not-short : (left : Bool) (x y : ℕ) (at : Angle) (S C : Signed) → sineSum false (at .top) (at .bottom) ≡ S → cosineSum false (at .top) (at .bottom) ≡ C → 0 < S .bottom → 0 < C .bottom
-    → Leq (C .minus) (y * C .top * S .bottom) (unlike left (S .minus)) (x * S .top * C .bottom) → NotShort left x y at
-not-short left x y at S C e f p q h =
-    record {
-      sine-proper = subst (λ s. 0 < s .bottom) (sym e) p;
-      cosine-proper = subst (λ c. 0 < c .bottom) (sym f) q;
-      holds = subst₂ (λ s c. Leq (c .minus) (y * c .top * s .bottom) (unlike left (s .minus)) (x * s .top * c .bottom)) (sym e) (sym f) h;
-    }
+clear : (b : Bool) → unlike false b ≡ b
+clear true = refl
+clear false = refl
+
+set : (b : Bool) → unlike true b ≡ not b
+set true = refl
+set false = refl
+
+mirrored : (left b : Bool) → unlike left (unlike true b) ≡ not (unlike left (unlike false b))
+mirrored true true = refl
+mirrored true false = refl
+mirrored false true = refl
+mirrored false false = refl
+
+-- ---- the two sums of an angle, given for the angle that is not negative
+module _ (left : Bool) (x y : ℕ) (at : Angle) (S C : Signed) (e : sineSum false (at .top) (at .bottom) ≡ S) (f : cosineSum false (at .top) (at .bottom) ≡ C) (p : 0 < S .bottom) (q : 0 < C .bottom) where
+  -- the reduced sums, and the two products
+  abbrev s₀ : Signed
+  s₀ = reduced 0 (at .top) (at .bottom)
+
+  abbrev c₀ : Signed
+  c₀ = reduced 1 (at .top) (at .bottom)
+
+  abbrev xs : ℕ
+  xs = x * s₀ .top * c₀ .bottom
+
+  abbrev yc : ℕ
+  yc = y * c₀ .top * s₀ .bottom
+
+  sine-fraction : 0 < s₀ .bottom
+  unfolding sineSum negated
+  sine-fraction = subst (λ s. 0 < s .bottom) (sym e) p
+
+  cosine-fraction : 0 < c₀ .bottom
+  unfolding cosineSum
+  cosine-fraction = subst (λ c. 0 < c .bottom) (sym f) q
+
+  not-past : (minus : Bool) → Leq (unlike left (S .minus)) (x * S .top * C .bottom) (C .minus) (y * C .top * S .bottom) → Nearer minus left x y at
+  unfolding sineSum negated cosineSum
+  not-past minus h = go minus (subst₂ (λ s c. Leq (unlike left (s .minus)) (x * s .top * c .bottom) (c .minus) (y * c .top * s .bottom)) (sym e) (sym f) h)
+    where
+      go : (minus : Bool) → Leq (unlike left (unlike false (s₀ .minus))) xs (c₀ .minus) yc → Nearer minus left x y at
+      go false k = record { sine-proper = sine-fraction; cosine-proper = cosine-fraction; holds = subst (λ b. Leq (unlike left (unlike false (s₀ .minus))) xs b yc) (sym (clear (c₀ .minus))) k }
+      go true k = record { sine-proper = sine-fraction; cosine-proper = cosine-fraction; holds = subst₂ (λ a b. Leq a yc b xs) (sym (set (c₀ .minus))) (sym (mirrored left (s₀ .minus))) (flip (unlike left (unlike false (s₀ .minus))) (c₀ .minus) xs yc k) }
+
+  not-short : (minus : Bool) → Leq (C .minus) (y * C .top * S .bottom) (unlike left (S .minus)) (x * S .top * C .bottom) → Farther minus left x y at
+  unfolding sineSum negated cosineSum
+  not-short minus h = go minus (subst₂ (λ s c. Leq (c .minus) (y * c .top * s .bottom) (unlike left (s .minus)) (x * s .top * c .bottom)) (sym e) (sym f) h)
+    where
+      go : (minus : Bool) → Leq (c₀ .minus) yc (unlike left (unlike false (s₀ .minus))) xs → Farther minus left x y at
+      go false k = record { sine-proper = sine-fraction; cosine-proper = cosine-fraction; holds = subst (λ b. Leq b yc (unlike left (unlike false (s₀ .minus))) xs) (sym (clear (c₀ .minus))) k }
+      go true k = record { sine-proper = sine-fraction; cosine-proper = cosine-fraction; holds = subst₂ (λ a b. Leq a xs b yc) (sym (mirrored left (s₀ .minus))) (sym (set (c₀ .minus))) (flip (c₀ .minus) (unlike left (unlike false (s₀ .minus))) yc xs k) }
 
 -- ---- products over any scale: s / S is s′ / S′ and c / C is c′ / C′
 rescaled : (x y s S s′ S′ c C c′ C′ : ℕ) → 0 < S → 0 < C → s′ * S ≡ s * S′ → c′ * C ≡ c * C′ → x * s * C ≤ y * c * S → x * s′ * C′ ≤ y * c′ * S′
@@ -118,20 +159,20 @@ no-sine n y C e = go (n * c) _ (ap (λ z. z * c) e ∙ zero-mul c)
 both-none : (p q : ℕ) → q ≡ 0 → p ≤ q → p + q ≤ 0
 both-none p q e h = omega arith
 
-low : (v : Turn) (left : Bool) (x y : ℕ) → Side left v → Proper v → NotUnder v x y → NotPast left x y (angle v)
-low (up n) false x y s h k = not-past false x y (angle (up n)) (Sine false n d) (Cosine false n d) (up-sums n h .0) (up-sums n h .1) proper-sine proper-cosine (sine-cosine n x y k)
-low (up n) true x y s h k = absurd s
-low (over n) true x y s h k = not-past true x y (angle (over n)) (Cosine false n d) (Sine true n d) (over-sums n h .0) (over-sums n h .1) proper-cosine proper-sine (sine-cosine n y x k)
-low (over n) false x y s h k = absurd s
-low (down n) true x y s h k = absurd s
-low (down n) false x y s h k = not-past false x y (angle (down n)) (Cosine false n d) (Sine (unlike true (below 1 (size (down n)))) n d) (down-sums n h .0) (down-sums n h .1) proper-cosine proper-sine (go _ (below-or-none 1 n d (lit< tt) h (size (down n)) (down-rest n h) (below 1 (size (down n))) refl))
+low : (minus : Bool) (v : Turn) (left : Bool) (x y : ℕ) → Side left v → Proper v → NotUnder v x y → Nearer minus left x y (angle v)
+low minus (up n) false x y s h k = not-past false x y (angle (up n)) (Sine false n d) (Cosine false n d) (up-sums n h .0) (up-sums n h .1) proper-sine proper-cosine minus (sine-cosine n x y k)
+low minus (up n) true x y s h k = absurd s
+low minus (over n) true x y s h k = not-past true x y (angle (over n)) (Cosine false n d) (Sine true n d) (over-sums n h .0) (over-sums n h .1) proper-cosine proper-sine minus (sine-cosine n y x k)
+low minus (over n) false x y s h k = absurd s
+low minus (down n) true x y s h k = absurd s
+low minus (down n) false x y s h k = not-past false x y (angle (down n)) (Cosine false n d) (Sine (unlike true (below 1 (size (down n)))) n d) (down-sums n h .0) (down-sums n h .1) proper-cosine proper-sine minus (go _ (below-or-none 1 n d (lit< tt) h (size (down n)) (down-rest n h) (below 1 (size (down n))) refl))
   where
     go : (b : Bool) → (b ≡ true) ⊎ ((b ≡ false) × (n ≡ 0)) → Leq false (x * cosineNum (n * c) (d * c) * sineDen (d * c)) (unlike true b) (y * sineNum (n * c) (d * c) * cosineDen (d * c))
     go true e = cosine-sine n x y k
     go false (inl e) = absurd (true≢false (sym e))
     go false (inr e) = both-none _ _ (no-sine n y (cosineDen (d * c)) (e .1)) (cosine-sine n x y k)
-low (back n) false x y s h k = absurd s
-low (back n) true x y s h k = not-past true x y (angle (back n)) (Sine (unlike false (unlike true (below 2 (size (back n))))) n d) (Cosine true n d) (back-sums n h .0) (back-sums n h .1) proper-sine proper-cosine (go _ (below-or-none 2 n d (lit< tt) h (size (back n)) (back-rest n h) (below 2 (size (back n))) refl))
+low minus (back n) false x y s h k = absurd s
+low minus (back n) true x y s h k = not-past true x y (angle (back n)) (Sine (unlike false (unlike true (below 2 (size (back n))))) n d) (Cosine true n d) (back-sums n h .0) (back-sums n h .1) proper-sine proper-cosine minus (go _ (below-or-none 2 n d (lit< tt) h (size (back n)) (back-rest n h) (below 2 (size (back n))) refl))
   where
     go : (b : Bool) → (b ≡ true) ⊎ ((b ≡ false) × (n ≡ 0)) → Leq (unlike true (unlike false (unlike true b))) (x * sineNum (n * c) (d * c) * cosineDen (d * c)) true (y * cosineNum (n * c) (d * c) * sineDen (d * c))
     go true e = cosine-sine n y x k
@@ -141,19 +182,19 @@ low (back n) true x y s h k = not-past true x y (angle (back n)) (Sine (unlike f
         none-both : (p q : ℕ) → p ≡ 0 → q ≤ p → p + q ≤ 0
         none-both p q e h = omega arith
 
-high : (v : Turn) (left : Bool) (x y : ℕ) → Side left v → Proper v → NotOver v x y → NotShort left x y (angle v)
-high (up n) false x y s h k = not-short false x y (angle (up n)) (Sine false n d) (Cosine false n d) (up-sums n h .0) (up-sums n h .1) proper-sine proper-cosine (cosine-sine n y x k)
-high (up n) true x y s h k = absurd s
-high (over n) true x y s h k = not-short true x y (angle (over n)) (Cosine false n d) (Sine true n d) (over-sums n h .0) (over-sums n h .1) proper-cosine proper-sine (cosine-sine n x y k)
-high (over n) false x y s h k = absurd s
-high (down n) true x y s h k = absurd s
-high (down n) false x y s h k = not-short false x y (angle (down n)) (Cosine false n d) (Sine (unlike true (below 1 (size (down n)))) n d) (down-sums n h .0) (down-sums n h .1) proper-cosine proper-sine (go (below 1 (size (down n))))
+high : (minus : Bool) (v : Turn) (left : Bool) (x y : ℕ) → Side left v → Proper v → NotOver v x y → Farther minus left x y (angle v)
+high minus (up n) false x y s h k = not-short false x y (angle (up n)) (Sine false n d) (Cosine false n d) (up-sums n h .0) (up-sums n h .1) proper-sine proper-cosine minus (cosine-sine n y x k)
+high minus (up n) true x y s h k = absurd s
+high minus (over n) true x y s h k = not-short true x y (angle (over n)) (Cosine false n d) (Sine true n d) (over-sums n h .0) (over-sums n h .1) proper-cosine proper-sine minus (cosine-sine n x y k)
+high minus (over n) false x y s h k = absurd s
+high minus (down n) true x y s h k = absurd s
+high minus (down n) false x y s h k = not-short false x y (angle (down n)) (Cosine false n d) (Sine (unlike true (below 1 (size (down n)))) n d) (down-sums n h .0) (down-sums n h .1) proper-cosine proper-sine minus (go (below 1 (size (down n))))
   where
     go : (b : Bool) → Leq (unlike true b) (y * sineNum (n * c) (d * c) * cosineDen (d * c)) false (x * cosineNum (n * c) (d * c) * sineDen (d * c))
     go true = sine-cosine n y x k
     go false = tt
-high (back n) false x y s h k = absurd s
-high (back n) true x y s h k = not-short true x y (angle (back n)) (Sine (unlike false (unlike true (below 2 (size (back n))))) n d) (Cosine true n d) (back-sums n h .0) (back-sums n h .1) proper-sine proper-cosine (go (below 2 (size (back n))))
+high minus (back n) false x y s h k = absurd s
+high minus (back n) true x y s h k = not-short true x y (angle (back n)) (Sine (unlike false (unlike true (below 2 (size (back n))))) n d) (Cosine true n d) (back-sums n h .0) (back-sums n h .1) proper-sine proper-cosine minus (go (below 2 (size (back n))))
   where
     go : (b : Bool) → Leq true (y * cosineNum (n * c) (d * c) * sineDen (d * c)) (unlike true (unlike false (unlike true b))) (x * sineNum (n * c) (d * c) * cosineDen (d * c))
     go true = sine-cosine n x y k
@@ -198,8 +239,8 @@ in-quadrant true t lo hi sl sh pl ph b a = (least whole halfPi (size lo) b (abov
     most w p v h k = omega arith
 
 -- ---- the enclosure, for the answer t / 2 ^ 49
-pub is-arctangent : (left : Bool) (x y t : ℕ) → Around left x y t → IsArctangent left x y t (2 ^ 49)
-is-arctangent left x y t r =
+pub is-arctangent : (minus left : Bool) (x y t : ℕ) → Around left x y t → IsArctangent minus left x y t (2 ^ 49)
+is-arctangent minus left x y t r =
     record {
       quadrant = in-quadrant left t (r .lo) (r .hi) (r .lo-side) (r .hi-side) (r .lo-proper) (r .hi-proper) (r .before) (r .after);
       lo = angle (r .lo);
@@ -209,8 +250,8 @@ is-arctangent left x y t r =
       before = before (size (r .lo)) whole (r .before);
       after = after (size (r .hi)) whole (r .after);
       close = close (size (r .lo)) (size (r .hi)) whole (r .close);
-      low = low (r .lo) left x y (r .lo-side) (r .lo-proper) (r .not-under);
-      high = high (r .hi) left x y (r .hi-side) (r .hi-proper) (r .not-over);
+      low = low minus (r .lo) left x y (r .lo-side) (r .lo-proper) (r .not-under);
+      high = high minus (r .hi) left x y (r .hi-side) (r .hi-proper) (r .not-over);
     }
   where
     before : (a w : ℕ) → a ≤ 4 * t * w → a * 2 ^ 49 ≤ t * (w * 2 ^ 51)

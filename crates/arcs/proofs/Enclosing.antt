@@ -1,15 +1,15 @@
 -- The enclosing angles in document 01's words. An angle n / d below a quarter pi is what is left of itself when the nearest multiple of half pi, 0, is removed, and half pi less n / d leaves n / d below the first multiple: the sums of the reduced angles are the sine and the cosine of n / d.
 use mathlib.Core.Path.{_≡_, refl, sym, ap, _∙_, subst}
-use mathlib.Core.Bool.{Bool, false}
+use mathlib.Core.Bool.{false}
 use Prim.Native.Nat.{ℕ, _+_, _*_, _≤_, _<_}
 use native.Mathlib.Nat.{one-mul, mul-pos, mul-le-mul-right, le-of-mul-le-mul-right}
 use native.Mathlib.Omega.{arith}
-use lib.Dec.{T, lit<}
+use lib.Dec.{lit<}
 use Rattle.series.specs.Taylor.{sineNum, sineDen, cosineNum, cosineDen}
-use Rattle.series.specs.Angle.{halfPi, whole, Signed, even, negative, turned, negated, sineSum}
+use Rattle.series.specs.Angle.{halfPi, whole, even, negative, turned, negated, sineSum}
 use Rattle.series.proofs.Turned.{sine-proper, cosine-proper}
 use Rattle.arcs.proofs.Turning.{c, Sine, Cosine, same-sine, same-cosine, after-sum, before-sum}
-use Rattle.arcs.specs.Enclosure.{Angle, IsAtMost, IsAtLeast, IsArcsine}
+use Rattle.arcs.specs.Enclosure.{IsAtMost, IsAtLeast}
 
 -- ---- comparisons of the sums: the same at any scale
 at-most-same : (N D N′ D′ a b : ℕ) → 0 < D → N′ * D ≡ N * D′ → N * b ≤ a * D → N′ * b ≤ a * D′

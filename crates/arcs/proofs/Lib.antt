@@ -1,10 +1,13 @@
 -- Laws on the arcs.
 pub mod Arcsines
 pub mod Arctangents
+pub mod Checks
 pub mod Enclosing
 pub mod Lower
 pub mod Octant
 pub mod Placing
+pub mod Rescaling
+pub mod Scaling
 pub mod Searching
 pub mod Steps
 pub mod Surrounding

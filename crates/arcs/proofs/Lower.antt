@@ -1,16 +1,12 @@
 -- The arcsine below a quarter pi: the two angles around the greatest step, 4 A - 1 and 4 A + 5 over 2 ^ 51, have sines that enclose the argument.
 use mathlib.Core.Path.{_≡_, ap}
-use mathlib.Core.Bool.{Bool}
-use mathlib.Core.List.{List, []}
 use mathlib.Core.Logic.{_⊎_, inl, inr}
 use Prim.Native.Nat.{ℕ, zero, suc, _+_, _*_, _-_, _^_, _/_, _≤_, _<_}
 use native.Mathlib.Nat.{div-mul-le-self, lt-div-mul-add, le-of-lt, eq-or-lt-of-le, zero-mul}
 use native.Mathlib.Omega.{arith}
 use lib.Arith.{lt→nleb}
-use lib.Dec.{T, T-not, leb→le, nleb→lt, le→leb, lit<}
+use lib.Dec.{T, leb→le, nleb→lt, le→leb, lit<}
 use Rattle.series.specs.Taylor.{sineNum, sineDen}
-use Rattle.series.proofs.Near.{Near}
-use Rattle.series.proofs.Horner.{AtLeast}
 use Rattle.arcs.specs.Search.{Found}
 use Rattle.arcs.specs.Grid.{lastStep, sineStep}
 use Rattle.arcs.specs.Arcsine.{atMost, arcsineSteps}
@@ -24,7 +20,7 @@ atMost-falls X A h t = le→leb (sineStep A) X (go (sineStep A) (sineStep (A + 1
     go : (P Q : ℕ) → P + 247 ≤ Q → Q ≤ X → P ≤ X
     go P Q a b = omega arith
 
-atMost-zero : (X : ℕ) → T (atMost X 0)
+pub atMost-zero : (X : ℕ) → T (atMost X 0)
 unfolding atMost
 atMost-zero X = rw sine-at-zero (le→leb 0 X (omega arith))
 

@@ -1,22 +1,20 @@
 -- The arctangent's first octant: the two angles around the greatest step, 4 A - 1 and 4 A + 5 over 2 ^ 51, have the sign's change between them.
 use mathlib.Core.Path.{_≡_, refl, sym, subst}
-use mathlib.Core.Bool.{Bool}
-use mathlib.Core.List.{List, [], _∷_}
+use mathlib.Core.List.{_∷_}
 use Prim.Native.Nat.{ℕ, zero, suc, _+_, _*_, _-_, _^_, _/_, _≤_, _<_}
 use native.Mathlib.Nat.{mul-le-mul, mul-le-mul-left, mul-le-mul-right, le-trans, div-mul-le-self, lt-div-mul-add, le-of-lt, le-of-mul-le-mul-left, le-of-mul-le-mul-right, div-le-of-le-mul, zero-mul}
 use native.Mathlib.Omega.{arith}
-use lib.Dec.{T, T-not, leb→le, nleb→lt, le→leb, lit<, lit≤}
+use lib.Dec.{T, leb→le, nleb→lt, le→leb, lit<, lit≤}
 use Rattle.series.specs.Taylor.{sineDivisors, cosineDivisors, sineNum, sineDen, cosineNum, cosineDen}
 use Rattle.series.specs.Units.{horner, square, sineUnits, cosineUnits}
-use Rattle.series.proofs.Near.{Near}
-use Rattle.series.proofs.Horner.{AtLeast, num-le-den}
+use Rattle.series.proofs.Horner.{num-le-den}
 use Rattle.series.proofs.Rise.{cosine-falls, cosine-falls-by}
 use Rattle.series.proofs.Turned.{cosine-proper}
 use Rattle.arcs.specs.Search.{Found}
 use Rattle.arcs.specs.Grid.{lastStep, sineStep, cosineStep}
 use Rattle.arcs.specs.Arctangent.{notAbove, arctangentSteps}
 use Rattle.arcs.proofs.Searching.{found, found-is}
-use Rattle.arcs.proofs.Steps.{sine-at-zero, Steep, steep-at, sineStep-near, cosineStep-near, sineStep-climbs, sineStep-sharp}
+use Rattle.arcs.proofs.Steps.{sine-at-zero, steep-at, sineStep-near, cosineStep-near, sineStep-climbs, sineStep-sharp}
 
 -- ---- what the test says of the products
 whole-le : (x y : ℕ) → x / 2 ^ 58 ≤ y / 2 ^ 58 → x ≤ y + 2 ^ 58

@@ -1,12 +1,10 @@
 -- The angle of a point in the upper half plane: the octant's answer placed, and the two angles around it between which the sign changes.
 use mathlib.Core.Path.{_≡_}
 use mathlib.Core.Bool.{Bool, true, false}
-use mathlib.Core.List.{List, []}
 use mathlib.Core.Logic.{_⊎_, inl, inr}
 use Prim.Native.Nat.{ℕ, _+_, _*_, _-_, _^_, _/_, _≤_, _<_}
 use native.Mathlib.Nat.{eq-or-lt-of-le}
 use native.Mathlib.Omega.{arith}
-use lib.Dec.{T, T-not}
 use Rattle.series.specs.Taylor.{sineNum, sineDen, cosineNum, cosineDen}
 use Rattle.series.specs.Angle.{halfPi, whole}
 use Rattle.arcs.specs.Grid.{lastStep}

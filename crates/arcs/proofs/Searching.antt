@@ -1,7 +1,6 @@
 -- The search by halves finds the place where a test changes, and whatever passes the check of such a place is that place.
 use mathlib.Core.Path.{_≡_, sym, ap, subst}
 use mathlib.Core.Bool.{Bool, true, false, not, cond, _&&_}
-use mathlib.Core.List.{List, []}
 use Prim.Native.Nat.{ℕ, zero, suc, _+_, _-_, _^_, _/_, _≤_, _<_}
 use native.Mathlib.Nat.{le-antisymm, pow-succ', add-zero, zero-add}
 use native.Mathlib.Omega.{arith}

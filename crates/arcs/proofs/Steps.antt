@@ -1,19 +1,15 @@
 -- The sine and the cosine on the grid, and what their slopes say of neighbours. Exact angles are n / 2 ^ 51: a step of the grid is 4 of them, and one of them is 128 units.
 use mathlib.Core.Path.{_≡_, refl, ap, subst}
-use mathlib.Core.Bool.{Bool}
-use mathlib.Core.List.{List, []}
 use Prim.Native.Nat.{ℕ, suc, _+_, _*_, _-_, _^_, _/_, _≤_, _<_}
 use native.Mathlib.Nat.{mul-le-mul-left, mul-le-mul-right, le-trans, le-of-mul-le-mul-left, le-of-mul-le-mul-right}
 use native.Mathlib.Omega.{arith}
-use lib.Dec.{T, T-not, lit<}
+use lib.Dec.{lit<}
 use Rattle.series.specs.Taylor.{sineDivisors, sineNum, sineDen, cosineNum, cosineDen}
 use Rattle.series.specs.Units.{horner, square, sineUnits}
 use Rattle.series.proofs.Near.{Near}
-use Rattle.series.proofs.Horner.{AtLeast}
 use Rattle.series.proofs.Values.{sine-near, cosine-near}
 use Rattle.series.proofs.Rise.{sine-rises, sine-rises-sharp}
 use Rattle.series.proofs.Turned.{sine-proper}
-use Rattle.arcs.specs.Search.{Found}
 use Rattle.arcs.specs.Grid.{lastStep, sineStep, cosineStep}
 
 -- ---- over any scale S = k * d: the sine from m / d to n / d rises by at least k / 2 units for each step of 1 / d

@@ -6,12 +6,10 @@ use mathlib.Core.Logic.{_⊎_, inl, inr}
 use Prim.Native.Nat.{ℕ, _+_, _*_, _-_, _^_, _/_, _≤_, _<_}
 use native.Mathlib.Nat.{mul-lt-mul-of-pos-left, le-antisymm, le-of-eq, div-le-self, mul-le-mul, mul-le-mul-left, mul-le-mul-right, le-trans, le-refl, div-mul-le-self, lt-div-mul-add, le-of-lt, le-of-mul-le-mul-left, div-le-of-le-mul, mul-pos, eq-or-lt-of-le}
 use native.Mathlib.Omega.{arith}
-use lib.Dec.{T, T-not, leb, ltb, leb→le, nleb→lt, ltb→lt, nltb→le, lit<, lit≤}
+use lib.Dec.{T, leb, ltb, leb→le, nleb→lt, ltb→lt, nltb→le, lit<, lit≤}
 use Rattle.series.specs.Taylor.{num, den, sineDivisors, sineNum, sineDen, cosineNum, cosineDen}
-use Rattle.series.proofs.Near.{Near}
-use Rattle.series.proofs.Horner.{AtLeast, num-le-den}
+use Rattle.series.proofs.Horner.{num-le-den}
 use Rattle.series.proofs.Rise.{cosine-falls, cosine-at-zero}
-use Rattle.arcs.specs.Search.{Found}
 use Rattle.arcs.specs.Grid.{lastStep, sineStep}
 use Rattle.series.specs.Angle.{halfPi, whole}
 use Rattle.arcs.specs.Arcsine.{arcsineSteps, upperSteps, scale, halfPiSteps, arcsineUnits}

@@ -40,25 +40,34 @@ Leq true p true q = q ≤ p
 Leq true p false q = Unit {0}
 Leq false p true q = p + q ≤ 0
 
--- at an angle x sin ≤ y cos, for a y not below 0 and an x with its sign set where `left` is true
-pub record NotPast (left : Bool) (x y : ℕ) (at : Angle) : Type 0 where
-  pub sine-proper : 0 < sineSum false (at .top) (at .bottom) .bottom
-  pub cosine-proper : 0 < cosineSum false (at .top) (at .bottom) .bottom
-  pub holds : Leq (unlike left (sineSum false (at .top) (at .bottom) .minus)) (x * sineSum false (at .top) (at .bottom) .top * cosineSum false (at .top) (at .bottom) .bottom) (cosineSum false (at .top) (at .bottom) .minus) (y * cosineSum false (at .top) (at .bottom) .top * sineSum false (at .top) (at .bottom) .bottom)
+-- at the angle ± top / bottom x sin ≤ y cos, for an x and a y with their signs: `left` says that x is negative, `minus` that y and the angle are
+pub record NotPast (minus left : Bool) (x y : ℕ) (at : Angle) : Type 0 where
+  pub sine-proper : 0 < sineSum minus (at .top) (at .bottom) .bottom
+  pub cosine-proper : 0 < cosineSum minus (at .top) (at .bottom) .bottom
+  pub holds : Leq (unlike left (sineSum minus (at .top) (at .bottom) .minus)) (x * sineSum minus (at .top) (at .bottom) .top * cosineSum minus (at .top) (at .bottom) .bottom) (unlike minus (cosineSum minus (at .top) (at .bottom) .minus)) (y * cosineSum minus (at .top) (at .bottom) .top * sineSum minus (at .top) (at .bottom) .bottom)
 
 -- and y cos ≤ x sin
-pub record NotShort (left : Bool) (x y : ℕ) (at : Angle) : Type 0 where
-  pub sine-proper : 0 < sineSum false (at .top) (at .bottom) .bottom
-  pub cosine-proper : 0 < cosineSum false (at .top) (at .bottom) .bottom
-  pub holds : Leq (cosineSum false (at .top) (at .bottom) .minus) (y * cosineSum false (at .top) (at .bottom) .top * sineSum false (at .top) (at .bottom) .bottom) (unlike left (sineSum false (at .top) (at .bottom) .minus)) (x * sineSum false (at .top) (at .bottom) .top * cosineSum false (at .top) (at .bottom) .bottom)
+pub record NotShort (minus left : Bool) (x y : ℕ) (at : Angle) : Type 0 where
+  pub sine-proper : 0 < sineSum minus (at .top) (at .bottom) .bottom
+  pub cosine-proper : 0 < cosineSum minus (at .top) (at .bottom) .bottom
+  pub holds : Leq (unlike minus (cosineSum minus (at .top) (at .bottom) .minus)) (y * cosineSum minus (at .top) (at .bottom) .top * sineSum minus (at .top) (at .bottom) .bottom) (unlike left (sineSum minus (at .top) (at .bottom) .minus)) (x * sineSum minus (at .top) (at .bottom) .top * cosineSum minus (at .top) (at .bottom) .bottom)
+
+-- the sign of y cos - x sin at the end nearer to 0, and at the other: it falls from 0 on and, to the other side, it rises
+abbrev pub Nearer : (minus left : Bool) (x y : ℕ) → Angle → Type 0
+Nearer false left x y at = NotPast false left x y at
+Nearer true left x y at = NotShort true left x y at
+
+abbrev pub Farther : (minus left : Bool) (x y : ℕ) → Angle → Type 0
+Farther false left x y at = NotShort false left x y at
+Farther true left x y at = NotPast true left x y at
 
 -- t / s lies in the quadrant of the signs: up to half pi, or from half pi to pi
 abbrev pub Quadrant : Bool → ℕ → ℕ → Type 0
 Quadrant false t s = t * whole ≤ halfPi * s
 Quadrant true t s = (halfPi * s ≤ t * whole) × (t * whole ≤ 2 * (halfPi * s))
 
--- t / s is an angle of the point (± x, y), up to a common scale of x and y
-pub record IsArctangent (left : Bool) (x y t s : ℕ) : Type 0 where
+-- ± t / s, with the sign of y, is an angle of the point (± x, ± y), up to a common scale of x and y
+pub record IsArctangent (minus left : Bool) (x y t s : ℕ) : Type 0 where
   pub quadrant : Quadrant left t s
   pub lo : Angle
   pub hi : Angle
@@ -67,5 +76,5 @@ pub record IsArctangent (left : Bool) (x y t s : ℕ) : Type 0 where
   pub before : lo .top * s ≤ t * lo .bottom
   pub after : t * hi .bottom ≤ hi .top * s
   pub close : 2 ^ 46 * (hi .top * lo .bottom) ≤ 2 ^ 46 * (lo .top * hi .bottom) + lo .bottom * hi .bottom
-  pub low : NotPast left x y lo
-  pub high : NotShort left x y hi
+  pub low : Nearer minus left x y lo
+  pub high : Farther minus left x y hi

@@ -6,7 +6,7 @@ use mathlib.Core.Bool.{Bool, true, false, not, _&&_, cond}
 use mathlib.Core.List.{List, [], _∷_}
 use mathlib.Core.Logic.{_⊎_, inl, inr}
 use Prim.Native.Nat.{ℕ, _+_, _*_, _-_, _^_, _/_, _≤_, _<_}
-use native.Mathlib.Nat.{mul-le-mul, mul-le-mul-left, mul-le-mul-right, le-trans, le-of-lt, lt-of-le-of-lt, mul-div-cancel, div-mul-le-self, lt-div-mul-add, div-le-of-le-mul, eq-or-lt-of-le, eq-of-mul-eq-mul-right, le-of-mul-le-mul-left}
+use native.Mathlib.Nat.{mul-le-mul, mul-le-mul-left, mul-le-mul-right, le-trans, le-of-lt, mul-div-cancel, div-mul-le-self, lt-div-mul-add, div-le-of-le-mul, eq-or-lt-of-le, eq-of-mul-eq-mul-right, le-of-mul-le-mul-left}
 use native.Mathlib.Omega.{arith}
 use lib.Dec.{T, leb, ltb, leb→le, nleb→lt, ltb→lt, lit<, lit≤}
 use lib.Pow.{pow-add, pow-pos, pow-lt}
@@ -15,13 +15,13 @@ use lib.Ieee.Bits.{is-true}
 use lib.Ieee.Exact.{HasValue, round-exact}
 use lib.Ieee.Fits.{round-fits}
 use lib.Ieee.Scale.{finite}
-use Rattle.laws.specs.Units.{Units, sign, unitsOf}
+use Rattle.laws.specs.Units.{sign, unitsOf}
 use Rattle.laws.proofs.Bools.{holds, refuted}
 use Rattle.laws.proofs.Compare.{lt-units}
-use Rattle.laws.proofs.Exact.{finite-of-value, value-units}
+use Rattle.laws.proofs.Exact.{finite-of-value, value-units, round-power}
 use Rattle.laws.proofs.Numbers.{sub-add}
 use Rattle.laws.proofs.Order.{lt-trans, le-of-lt-float}
-use Rattle.laws.proofs.Units.{Form, form, own-units}
+use Rattle.laws.proofs.Units.{form, own-units}
 use Rattle.math.specs.Sign.{abs}
 use Rattle.math.proofs.Sign.{at-most-size}
 use Rattle.series.specs.Angle.{whole, distance, quarters, NearestMultiple, Signed, negative, even, reduced, turned, negated, sineSum, cosineSum, gap, Close}
@@ -42,12 +42,9 @@ in-domain x t d = at-most-size x largest (16 * 2 ^ 1074) t (unfold ofBits in (re
 rounded-value : (s : Bool) (v : ℕ) → v ≤ 2 ^ 53 → HasValue (round binary64 s v (2 ^ 53)) s v (2 ^ 53)
 rounded-value s v h = go (eq-or-lt-of-le h)
   where
-    split : (v K : ℕ) → v * (2 ^ 53 * K) ≡ v * K * 2 ^ 53
-    split v K = omega arith
-
     go : (v ≡ 2 ^ 53) ⊎ (v < 2 ^ 53) → HasValue (round binary64 s v (2 ^ 53)) s v (2 ^ 53)
     go (inl e) = subst (λ n. HasValue (round binary64 s n (2 ^ 53)) s n (2 ^ 53)) (sym e) (round-exact binary64 s (2 ^ 53) (2 ^ 53) 1 1074 (lit< tt) (lit< tt) (lit< tt) refl)
-    go (inr l) = round-exact binary64 s v (2 ^ 53) v 1021 (lit< tt) l (lt-of-le-of-lt (mul-le-mul-right (2 ^ 1021) h) (lit< tt)) (split v (2 ^ 1021))
+    go (inr l) = round-power s v 53 l (lit≤ tt)
 
 rounding-gap : (s t : Bool) (p v D M : ℕ) → v ≡ (p + 16) / 32 → gap s (p * D) t (32 * M) ≤ 23 * D → gap s (v * D) t M ≤ 2 * D
 unfolding gap distance

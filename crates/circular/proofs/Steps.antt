@@ -1,21 +1,21 @@
 -- What the code owes, step by step.
 use mathlib.Core.Path.{_≡_, refl, sym, ap, _∙_, subst}
-use mathlib.Core.Bool.{Bool, true, false, not, cond, true≢false}
+use mathlib.Core.Bool.{Bool, true, false, not, cond}
 use Prim.Native.Nat.{ℕ, _+_, _*_, _-_, _^_, _/_, _%_, _≤_, _<_}
 use native.Mathlib.Nat.{le-trans, lt-of-le-of-lt, mul-le-mul-right, div-le-of-le-mul}
 use native.Mathlib.Omega.{arith}
-use lib.IntN.{ℤ, pos, negsuc}
+use lib.IntN.{pos, negsuc}
 use lib.Dec.{T, leb, ltb, eqb, ltb→lt, nltb→le, lt→ltb, le→leb, lit<, lit≤}
 use lib.Pow.{pow-pos}
 use lib.Ieee.{Float, nan, inf, fin, binary64, fits, up, down, neg, mul, div, round, ofInt, toUnsigned, inFloat, lt, le, unlike, ofBits}
 use lib.Ieee.Bits.{is-true}
 use lib.Ieee.Exact.{HasValue}
-use lib.Ieee.Fits.{down-pos, eq→eqb}
-use lib.Ieee.Scale.{finite, round-same}
+use lib.Ieee.Fits.{eq→eqb}
+use lib.Ieee.Scale.{finite}
 use Rattle.laws.specs.Units.{Units, sign, unitsOf}
 use Rattle.laws.proofs.Bools.{holds, fails, refuted}
 use Rattle.laws.proofs.Compare.{lt-units, lt-units-signed}
-use Rattle.laws.proofs.Exact.{mul-power, to-unsigned, castable-value, whole-value, zero-by-zero}
+use Rattle.laws.proofs.Exact.{mul-power, to-unsigned, castable-value, whole-value, over-power, zero-by-zero}
 use Rattle.laws.proofs.Units.{own-units}
 use Rattle.math.specs.Sign.{abs}
 use Rattle.math.proofs.Sign.{abs-units, units-of-abs, neg-round}
@@ -59,21 +59,8 @@ grid-holds v h = le→leb ((v + 16) / 32) (2 ^ 53) (go v h)
     go : (v : ℕ) → v ≤ 2 ^ 58 → (v + 16) / 32 ≤ 2 ^ 53
     go v h = omega arith
 
-over-grid : (x : Float) (n : ℕ) → HasValue x false n 1 → mul binary64 x (fin false 1 (negsuc 52)) ≡ round binary64 false n (2 ^ 53)
-unfolding mul
-over-grid nan n v = absurd v
-over-grid (inf s) n v = absurd v
-over-grid (fin true m e) n v = absurd (true≢false (v .0))
-over-grid (fin false m e) n v = round-same binary64 false (m * up e * 1) (down e * 2 ^ 53) n (2 ^ 53) (positive (down e) (down-pos e)) (lit< tt) (go (m * up e) (down e) (v .1))
-  where
-    positive : (d : ℕ) → 0 < d → 0 < d * 2 ^ 53
-    positive d h = omega arith
-
-    go : (u d : ℕ) → u * 1 ≡ n * d → u * 1 * 2 ^ 53 ≡ n * (d * 2 ^ 53)
-    go u d e = omega (arith, e)
-
 grid-value : (v : ℕ) → v ≤ 2 ^ 58 → mul binary64 (ofInt binary64 (pos ((v + 16) / 32))) (fin false 1 (negsuc 52)) ≡ round binary64 false ((v + 16) / 32) (2 ^ 53)
-grid-value v h = over-grid (ofInt binary64 (pos ((v + 16) / 32))) ((v + 16) / 32) (whole-value ((v + 16) / 32) (go v h))
+grid-value v h = over-power (ofInt binary64 (pos ((v + 16) / 32))) ((v + 16) / 32) 52 (whole-value ((v + 16) / 32) (go v h))
   where
     go : (v : ℕ) → v ≤ 2 ^ 58 → (v + 16) / 32 ≤ 2 ^ 53
     go v h = omega arith

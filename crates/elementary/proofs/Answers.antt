@@ -9,7 +9,11 @@ use Rattle.root.specs.Hypot.{hypot, inDomain}
 use Rattle.root.proofs.HypotBound.{hypot-is}
 use Rattle.circular.specs.Sine as Circular
 use Rattle.circular.proofs.Bound.{sine-is, cosine-is}
-use Rattle.elementary.specs.Checked.{numberOrRefused, hypotAnswer, sinAnswer, cosAnswer}
+use Rattle.inverse.specs.Asin as Asin
+use Rattle.inverse.specs.Atan2 as Atan2
+use Rattle.inverse.proofs.Arcsines.{arcsine-is}
+use Rattle.inverse.proofs.Arctangents.{arctangent-is}
+use Rattle.elementary.specs.Checked.{numberOrRefused, hypotAnswer, sinAnswer, cosAnswer, asinAnswer, atan2Answer}
 use Rattle.elementary.specs.declared.error.Refusal.the-variants.{Angle}
 use Rattle.elementary.specs.declared.checked.Real.{Real}
 use Rattle.elementary.specs.declared.checked.Real.the-variants.{Number, Refused}
@@ -43,3 +47,11 @@ sin-answer x h r t e f = let is = sine-is x t in f ∙ ap numberOrRefused e ∙ 
 pub cos-answer : (x h : Float) (r : Real) → T (fits binary64 x) → h ≡ Circular.cos x → r ≡ numberOrRefused h → r ≡ cosAnswer x
 unfolding cosAnswer
 cos-answer x h r t e f = let is = cosine-is x t in f ∙ ap numberOrRefused e ∙ answer (Circular.inDomain x) (Circular.cos x) (is .outside) (λ d. is .inside d .number)
+
+pub asin-answer : (x h : Float) (r : Real) → T (fits binary64 x) → h ≡ Asin.asin x → r ≡ numberOrRefused h → r ≡ asinAnswer x
+unfolding asinAnswer
+asin-answer x h r t e f = let is = arcsine-is x t in f ∙ ap numberOrRefused e ∙ answer (Asin.inDomain x) (Asin.asin x) (is .outside) (λ d. is .inside d .number)
+
+pub atan2-answer : (y x h : Float) (r : Real) → T (fits binary64 y) → T (fits binary64 x) → h ≡ Atan2.atan2 y x → r ≡ numberOrRefused h → r ≡ atan2Answer y x
+unfolding atan2Answer
+atan2-answer y x h r ty tx e f = let is = arctangent-is y x ty tx in f ∙ ap numberOrRefused e ∙ answer (Atan2.bothFinite y x) (Atan2.atan2 y x) (is .outside) (λ d. is .inside d .number)

@@ -4,6 +4,8 @@ use Prim.Native.Nat.{ℕ}
 use lib.Ieee.{Float, nan, eq}
 use Rattle.root.specs.Hypot.{hypot, inDomain}
 use Rattle.circular.specs.Sine as Circular
+use Rattle.inverse.specs.Asin as Asin
+use Rattle.inverse.specs.Atan2 as Atan2
 use Rattle.elementary.specs.Refusal.{numberOf}
 use Rattle.elementary.specs.declared.error.Refusal.the-variants.{Angle}
 use Rattle.elementary.specs.declared.checked.Real.{Real}
@@ -30,3 +32,9 @@ sinAnswer x = cond (Circular.inDomain x) (Number (Circular.sin x)) (Refused Angl
 
 unfoldable pub cosAnswer : Float → Real
 cosAnswer x = cond (Circular.inDomain x) (Number (Circular.cos x)) (Refused Angle)
+
+unfoldable pub asinAnswer : Float → Real
+asinAnswer x = cond (Asin.inDomain x) (Number (Asin.asin x)) (Refused Angle)
+
+unfoldable pub atan2Answer : Float → Float → Real
+atan2Answer y x = cond (Atan2.bothFinite y x) (Number (Atan2.atan2 y x)) (Refused Angle)

@@ -1,6 +1,6 @@
 // The elementary functions that have a domain, refusing with number 1 outside it.
 ghost use mathlib.Core.Path.{_≡_};
-ghost use Rattle.elementary.specs.Checked.{numberOrRefused, hypotAnswer, sinAnswer, cosAnswer};
+ghost use Rattle.elementary.specs.Checked.{numberOrRefused, hypotAnswer, sinAnswer, cosAnswer, asinAnswer, atan2Answer};
 use crate::error::Refusal;
 
 // A number, or why there is none.
@@ -38,4 +38,18 @@ pub fn cos(x: f64) -> Real
     ensures { λ r. ⌜ r ≡ cosAnswer x ⌝ }
 {
     number_or_refused(circular::cos(x))
+}
+
+// The arcsine of a number from 0 to 1.
+pub fn asin(x: f64) -> Real
+    ensures { λ r. ⌜ r ≡ asinAnswer x ⌝ }
+{
+    number_or_refused(inverse::asin(x))
+}
+
+// The angle of the point (x, y), both finite.
+pub fn atan2(y: f64, x: f64) -> Real
+    ensures { λ r. ⌜ r ≡ atan2Answer y x ⌝ }
+{
+    number_or_refused(inverse::atan2(y, x))
 }

@@ -4,6 +4,8 @@ ghost use mathlib.Core.Path.{_≡_};
 ghost use Rattle.root.specs.Sqrt.{sqrt, IsSqrt};
 ghost use Rattle.root.specs.Hypot.{hypot, IsHypot};
 ghost use Rattle.circular.specs.Sine.{sin, cos, IsSine, IsCosine};
+ghost use Rattle.inverse.specs.Asin.{asin, IsAsin};
+ghost use Rattle.inverse.specs.Atan2.{atan2, IsAtan2};
 
 #[no_mangle]
 pub extern "C" fn elementary_sqrt(x: f64) -> f64
@@ -31,4 +33,18 @@ pub extern "C" fn elementary_cos(x: f64) -> f64
     ensures { λ r. ⌜ (r ≡ cos x) × IsCosine x r ⌝ }
 {
     circular::cos(x)
+}
+
+#[no_mangle]
+pub extern "C" fn elementary_asin(x: f64) -> f64
+    ensures { λ r. ⌜ (r ≡ asin x) × IsAsin x r ⌝ }
+{
+    inverse::asin(x)
+}
+
+#[no_mangle]
+pub extern "C" fn elementary_atan2(y: f64, x: f64) -> f64
+    ensures { λ r. ⌜ (r ≡ atan2 y x) × IsAtan2 y x r ⌝ }
+{
+    inverse::atan2(y, x)
 }

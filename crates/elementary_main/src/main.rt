@@ -98,7 +98,9 @@ fn number(which: u64, x: f64, y: f64) -> f64 {
         11 => angle::reciprocal(x),
         12 => angle::from_degrees_wrapped(x),
         13 => circular::sin(x),
-        _ => circular::cos(x),
+        14 => circular::cos(x),
+        15 => inverse::asin(x),
+        _ => inverse::atan2(x, y),
     }
 }
 
@@ -122,7 +124,10 @@ fn other(which: u64, a: u64, b: u64) -> u64 {
         32 => truth(duration(a, 1).is_before(duration(b, 2))),
         33 => truth(duration(a, b).is_accepted()),
         34 => pattern_in(elementary::checked::sin(x)),
-        _ => pattern_in(elementary::checked::cos(x)),
+        35 => pattern_in(elementary::checked::cos(x)),
+        36 => pattern_in(elementary::checked::asin(x)),
+        37 => pattern_in(elementary::checked::atan2(x, y)),
+        _ => truth(math::is_finite(x)),
     }
 }
 

@@ -1,18 +1,18 @@
 -- Where an operation is exact: rounding a float's own value, a whole number of 53 digits as a float, a product with a power of two, and the whole part of a float as an integer.
 use mathlib.Core.Path.{_≡_, refl, sym, ap, _∙_, subst}
-use mathlib.Core.Bool.{Bool, true, false}
+use mathlib.Core.Bool.{Bool, true, false, true≢false}
 use Prim.Native.Nat.{ℕ, suc, _+_, _*_, _-_, _^_, _/_, _≤_, _<_, min}
-use native.Mathlib.Nat.{le-of-lt, lt-of-le-of-lt, mul-pos, mul-one, mul-assoc, mul-le-mul-right, eq-of-mul-eq-mul-right}
+use native.Mathlib.Nat.{le-of-lt, lt-of-le-of-lt, mul-pos, mul-one, mul-assoc, mul-le-mul, mul-le-mul-right, eq-of-mul-eq-mul-right, sub-le}
 use native.Mathlib.Omega.{arith}
 use lib.IntN.{pos, negsuc}
-use lib.Dec.{T, lt→ltb}
-use lib.Pow.{pow-add, pow-pos}
+use lib.Dec.{T, lt→ltb, lit<}
+use lib.Pow.{pow-add, pow-pos, pow-mono}
 use lib.Ieee.{Float, nan, inf, fin, binary64, fits, up, down, mul, round, unlike, ofInt, toUnsigned, lt, le, div, ofBits}
 use lib.Ieee.Back.{round-whole}
 use lib.Ieee.Exact.{HasValue, round-exact}
 use lib.Ieee.Fits.{round-fits, down-pos}
 use lib.Ieee.Nearest.{div-same}
-use lib.Ieee.Scale.{finite}
+use lib.Ieee.Scale.{finite, round-same}
 use Rattle.laws.specs.Units.{Units, sign, unitsOf}
 use Rattle.laws.proofs.Compare.{lt-values}
 use Rattle.laws.proofs.Numbers.{sub-add}
@@ -140,3 +140,19 @@ castable x y l h k = (lt-le-trans (fin true 1 (pos 0)) (fin false 0 (pos 0)) x (
 pub zero-by-zero : div binary64 (ofBits binary64 0) (ofBits binary64 0) ≡ nan
 unfolding div ofBits
 zero-by-zero = refl
+
+-- ---- over a power of two
+-- n / 2 ^ i, for an n of 53 digits
+pub round-power : (s : Bool) (n i : ℕ) → n < 2 ^ 53 → i ≤ 1074 → HasValue (round binary64 s n (2 ^ i)) s n (2 ^ i)
+round-power s n i h k = round-exact binary64 s n (2 ^ i) n (1074 - i) (pow-pos i) h (lt-of-le-of-lt (mul-le-mul (le-of-lt h) (pow-mono (sub-le 1074 i))) (lit< tt)) (ap (λ z. n * 2 ^ z) (sub-add 1074 i k) ∙ ap (λ z. n * z) (pow-add 2 (1074 - i) i) ∙ sym (mul-assoc n (2 ^ (1074 - i)) (2 ^ i)))
+
+-- a whole number times 2 ^ - suc i is that fraction, rounded
+pub over-power : (x : Float) (n i : ℕ) → HasValue x false n 1 → mul binary64 x (fin false 1 (negsuc i)) ≡ round binary64 false n (2 ^ suc i)
+unfolding mul
+over-power nan n i v = absurd v
+over-power (inf s) n i v = absurd v
+over-power (fin true m e) n i v = absurd (true≢false (v .0))
+over-power (fin false m e) n i v = round-same binary64 false (m * up e * 1) (down e * 2 ^ suc i) n (2 ^ suc i) (mul-pos (down-pos e) (pow-pos (suc i))) (pow-pos (suc i)) (go (m * up e) (down e) (2 ^ suc i) (v .1))
+  where
+    go : (u d p : ℕ) → u * 1 ≡ n * d → u * 1 * p ≡ n * (d * p)
+    go u d p e = omega (arith, ap (λ z. z * p) e)

@@ -7,10 +7,9 @@ use native.Mathlib.Omega.{arith}
 use lib.IntN.{pos}
 use lib.Arith.{lt→nleb}
 use lib.Dec.{T, leb, ltb, le→leb, lit<, lit≤}
-use lib.Ieee.{Float, nan, inf, fin, binary64, fits, isNan, toBits, ofBits, nanBits, neg, eq, lt, le, round, units, odd, ne}
+use lib.Ieee.{Float, nan, inf, fin, binary64, fits, isNan, toBits, ofBits, nanBits, neg, div, eq, lt, le, round, units, odd, ne}
 use lib.Ieee.Bits.{is-true, is-false, ofBits-toBits, nanBits-is}
 use lib.Ieee.Compare.{differs-from-itself}
-use lib.Ieee.Exact.{HasValue}
 use lib.Ieee.Fits.{round-is}
 use lib.Ieee.Scale.{finite}
 use Rattle.laws.specs.Units.{Units, unitsOf}
@@ -53,6 +52,19 @@ unfolding abs unitsOf
 units-of-abs nan = refl
 units-of-abs (inf s) = refl
 units-of-abs (fin s m e) = refl
+
+-- a finite number, and no other, is below infinity in size
+pub below-infinite : (x : Float) → lt (abs x) (div binary64 (ofBits binary64 0x3ff0_0000_0000_0000) (ofBits binary64 0)) ≡ finite x
+unfolding abs
+below-infinite x = ap (λ y. lt (abs x) y) infinite ∙ go x
+  where
+    infinite : div binary64 (ofBits binary64 0x3ff0_0000_0000_0000) (ofBits binary64 0) ≡ inf false
+    infinite = unfold div ofBits in refl
+
+    go : (x : Float) → lt (abs x) (inf false) ≡ finite x
+    go nan = unfold lt in refl
+    go (inf s) = unfold lt in refl
+    go (fin s m e) = unfold lt in refl
 
 -- |x| ≤ y: x is finite, and no larger
 pub at-most-size : (x y : Float) (b : ℕ) → T (fits binary64 x) → Units y false b → T (le (abs x) y) → T (finite x) × (unitsOf x ≤ b)

@@ -4,6 +4,7 @@
 ghost use mathlib.Core.Path.{_≡_};
 ghost use lib.Ieee as Ieee;
 ghost use lib.Ieee.{binary64};
+ghost use lib.Ieee.Scale.{finite};
 ghost use lib.IntN.{pos};
 ghost use Rattle.math.specs.Convert.{toRadians, toDegrees};
 ghost use Rattle.math.specs.Sign as Sign;
@@ -55,6 +56,13 @@ fn is_sign_negative(x: f64) -> bool
         return f64::to_bits(x) >= SIGN_BIT;
     }
     false
+}
+
+// Whether x is a number and not infinite.
+pub fn is_finite(x: f64) -> bool
+    ensures { λ r. ⌜ r ≡ finite x ⌝ }
+{
+    abs(x) < 1.0 / 0.0
 }
 
 // `magnitude` with the sign of `sign`.

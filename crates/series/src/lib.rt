@@ -26,6 +26,19 @@ fn mul58(a: u64, b: u64) -> u64
     a1 * b1 + middle / HALF
 }
 
+// The product of a and b, cut to whole units; 0 where one of them is above one.
+pub fn product(a: u64, b: u64) -> u64
+    ensures { λ r. ⌜ (a ≤ 2 ^ 58 → b ≤ 2 ^ 58 → r ≡ a * b / 2 ^ 58) × (2 ^ 58 < a → r ≡ 0) × (2 ^ 58 < b → r ≡ 0) × (r ≤ b) ⌝ }
+{
+    if ONE < a {
+        return 0;
+    }
+    if ONE < b {
+        return 0;
+    }
+    mul58(a, b)
+}
+
 // One step of Horner's rule.
 fn step(z: u64, q: u64, c: u64) -> u64
     requires { ⌜ (z ≤ 2 ^ 58) × (q ≤ c) × (c ≤ 2 ^ 58) ⌝ }
@@ -34,11 +47,13 @@ fn step(z: u64, q: u64, c: u64) -> u64
     c - mul58(z, q)
 }
 
-// 1 - z / 3! + z^2 / 5! - ...: the coefficients are ONE / 19!, ONE / 17!, ...; ONE / 21! is no whole unit.
-fn sine_series(z: u64) -> u64
-    requires { ⌜ z ≤ 2 ^ 58 ⌝ }
-    ensures { λ r. ⌜ (r ≡ horner (2 ^ 58) z 1 sineDivisors) × (r ≤ 2 ^ 58) ⌝ }
+// 1 - z / 3! + z^2 / 5! - ...: the coefficients are ONE / 19!, ONE / 17!, ...; ONE / 21! is no whole unit. 0 for a z above one.
+pub fn sine_series(z: u64) -> u64
+    ensures { λ r. ⌜ (z ≤ 2 ^ 58 → r ≡ horner (2 ^ 58) z 1 sineDivisors) × (2 ^ 58 < z → r ≡ 0) × (r ≤ 2 ^ 58) ⌝ }
 {
+    if z > ONE {
+        return 0;
+    }
     let q8 = step(z, 2, 810);
     let q7 = step(z, q8, 220414);
     let q6 = step(z, q7, 46287042);
@@ -50,11 +65,13 @@ fn sine_series(z: u64) -> u64
     step(z, q1, ONE)
 }
 
-// 1 - 2 z / 4! + 2 z^2 / 6! - ...
-fn cosine_series(z: u64) -> u64
-    requires { ⌜ z ≤ 2 ^ 58 ⌝ }
-    ensures { λ r. ⌜ (r ≡ horner (2 ^ 58) z 1 cosineDivisors) × (r ≤ 2 ^ 58) ⌝ }
+// 1 - 2 z / 4! + 2 z^2 / 6! - ...; 0 for a z above one.
+pub fn cosine_series(z: u64) -> u64
+    ensures { λ r. ⌜ (z ≤ 2 ^ 58 → r ≡ horner (2 ^ 58) z 1 cosineDivisors) × (2 ^ 58 < z → r ≡ 0) × (r ≤ 2 ^ 58) ⌝ }
 {
+    if ONE < z {
+        return 0;
+    }
     let q7 = step(z, 90, 27551);
     let q6 = step(z, q7, 6612434);
     let q5 = step(z, q6, 1203463103);

@@ -20,7 +20,7 @@ sub-result : tie.Need-sub-result
 sub-result c = search needs
 
 returns-2 : tie.Need-returns-2
-returns-2 c = (λ h. cosine-is (c .before .before .before .before .args .r) _ _ _ (c .before .before .mul58 .ensures .0) (c .before .cosine-series .ensures .0) (c .mul582 .ensures .0), λ g. above (c .before .before .before .before .args .r) (c .before .before .before .if1 .left) g, omega arith)
+returns-2 c = (λ h. cosine-is (c .before .before .before .before .args .r) _ _ _ (c .before .before .mul58 .ensures .0) (c .before .cosine-series .ensures .0 (omega (arith, c .before .before .mul58 .ensures .1, h))) (c .mul582 .ensures .0), λ g. above (c .before .before .before .before .args .r) (c .before .before .before .if1 .left) g, omega arith)
 
 pub cosine-spec : {M : Type 1} → statement M
 cosine-spec =

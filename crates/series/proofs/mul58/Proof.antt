@@ -1,5 +1,5 @@
 use native.Mathlib.Omega.{arith}
-use Rattle.series.proofs.Halves.{Columns, columns, product, product-le}
+use Rattle.series.proofs.Halves.{columns, product, product-le}
 use Rattle.series.proofs.mul58.Statement.{statement}
 use Rattle.series.proofs.mul58.Tie as tie
 

@@ -17,7 +17,7 @@ mul58-requires-2 : tie.Need-mul58-requires-2
 mul58-requires-2 c κs = search needs
 
 returns-2 : tie.Need-returns-2
-returns-2 c = (λ h. sine-is (c .before .before .before .before .args .r) _ _ _ (c .before .before .mul58 .ensures .0) (c .before .sine-series .ensures .0) (c .mul582 .ensures .0), λ g. above (c .before .before .before .before .args .r) (c .before .before .before .if1 .left) g, omega (arith, c .mul582 .ensures .1, c .before .sine-series .ensures .1))
+returns-2 c = (λ h. sine-is (c .before .before .before .before .args .r) _ _ _ (c .before .before .mul58 .ensures .0) (c .before .sine-series .ensures .0 (omega (arith, c .before .before .mul58 .ensures .1, h))) (c .mul582 .ensures .0), λ g. above (c .before .before .before .before .args .r) (c .before .before .before .if1 .left) g, omega (arith, c .mul582 .ensures .1, c .before .sine-series .ensures .2))
 
 pub sine-spec : {M : Type 1} → statement M
 sine-spec =

@@ -1,7 +1,10 @@
-use Rattle.series.proofs.Halves.{sine-series-is}
+use Rattle.series.proofs.Halves.{sine-series-is, above}
 use borrow.Author.Needs.{needs}
 use Rattle.series.proofs.sine_series.Statement.{statement}
 use Rattle.series.proofs.sine_series.Tie as tie
+
+returns : tie.Need-returns
+returns c = search needs
 
 step-requires : tie.Need-step-requires
 step-requires c κs = search needs
@@ -30,13 +33,14 @@ step-requires-8 c κs = search needs
 step-requires-9 : tie.Need-step-requires-9
 step-requires-9 c κs = search needs
 
-returns : tie.Need-returns
-returns c = (sine-series-is (c .before .before .before .before .before .before .before .before .before .args .z) _ _ _ _ _ _ _ _ _ (c .before .before .before .before .before .before .before .before .step .ensures .0) (c .before .before .before .before .before .before .before .step2 .ensures .0) (c .before .before .before .before .before .before .step3 .ensures .0) (c .before .before .before .before .before .step4 .ensures .0) (c .before .before .before .before .step5 .ensures .0) (c .before .before .before .step6 .ensures .0) (c .before .before .step7 .ensures .0) (c .before .step8 .ensures .0) (c .step9 .ensures .0), c .step9 .ensures .1)
+returns-2 : tie.Need-returns-2
+returns-2 c = (λ h. sine-series-is (c .before .before .before .before .before .before .before .before .before .before .args .z) _ _ _ _ _ _ _ _ _ (c .before .before .before .before .before .before .before .before .step .ensures .0) (c .before .before .before .before .before .before .before .step2 .ensures .0) (c .before .before .before .before .before .before .step3 .ensures .0) (c .before .before .before .before .before .step4 .ensures .0) (c .before .before .before .before .step5 .ensures .0) (c .before .before .before .step6 .ensures .0) (c .before .before .step7 .ensures .0) (c .before .step8 .ensures .0) (c .step9 .ensures .0), λ g. above (c .before .before .before .before .before .before .before .before .before .before .args .z) (c .before .before .before .before .before .before .before .before .before .if1 .left) g, c .step9 .ensures .1)
 
 pub sine-series-spec : {M : Type 1} → statement M
 sine-series-spec =
     tie.close
     (tie.spec
+    returns
     step-requires
     step-requires-2
     step-requires-3
@@ -46,4 +50,4 @@ sine-series-spec =
     step-requires-7
     step-requires-8
     step-requires-9
-    returns)
+    returns-2)

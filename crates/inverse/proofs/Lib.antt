@@ -1,0 +1,4 @@
+-- Laws on the arcsine and the arctangent of f64s.
+pub mod Arcsines
+pub mod Arctangents
+pub mod Octants
