@@ -10,9 +10,13 @@ const GRID: f64 = 1.1102230246251565e-16;
 
 const HALF_GRID: f64 = 5.551115123125783e-17;
 
-// An angle from 0 to 8 in steps of 2^-49, cut: half a step less than 8 is added, which leaves the steps in the low digits.
+// An angle from 0 to 8 in steps of 2^-49, cut: half a step less than 8 is added, which leaves the steps in the low digits of a
+// number from 8 to 16.
 fn steps(angle: f64) -> u64 {
     let raised = angle + 7.999999999999999;
+    if raised < 8.0 {
+        return 0;
+    }
     if raised < 16.0 {
         return f64::to_bits(raised) & 0xf_ffff_ffff_ffff;
     }

@@ -1,5 +1,6 @@
 -- The relations and functions that the laws speak of.
 pub mod Fold
+pub mod Ops
 pub mod Rounding
 pub mod Size
 pub mod Units

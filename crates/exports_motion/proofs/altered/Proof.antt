@@ -1,0 +1,25 @@
+use Rattle.exports_motion.specs.Words.{altered}
+use borrow.Author.Needs.{needs}
+use Rattle.exports_motion.proofs.altered.Statement.{statement}
+use Rattle.exports_motion.proofs.altered.Tie as tie
+
+presence-requires : tie.Need-presence-requires
+presence-requires c κs = search needs
+
+course-requires : tie.Need-course-requires
+course-requires c κs = search needs
+
+presence-requires-2 : tie.Need-presence-requires-2
+presence-requires-2 c κs = search needs
+
+course-requires-2 : tie.Need-course-requires-2
+course-requires-2 c κs = search needs
+
+returns : tie.Need-returns
+unfolding altered
+returns c = cc
+
+pub altered-spec : {M : Type 1} → statement M
+altered-spec =
+    tie.close
+    (tie.spec presence-requires course-requires presence-requires-2 course-requires-2 returns)

@@ -1,0 +1,14 @@
+use Rattle.exports_motion.specs.Words.{passed}
+use borrow.Author.Needs.{needs}
+use Rattle.exports_motion.proofs.passed.Statement.{statement}
+use Rattle.exports_motion.proofs.passed.Tie as tie
+
+pattern-requires : tie.Need-pattern-requires
+pattern-requires c κs = search needs
+
+returns : tie.Need-returns
+unfolding passed
+returns c = cc
+
+pub passed-spec : {M : Type 1} → statement M
+passed-spec = tie.close (tie.spec pattern-requires returns)

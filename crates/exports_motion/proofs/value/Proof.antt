@@ -1,0 +1,14 @@
+use Rattle.exports_motion.specs.Words.{value}
+use borrow.Author.Needs.{needs}
+use Rattle.exports_motion.proofs.value.Statement.{statement}
+use Rattle.exports_motion.proofs.value.Tie as tie
+
+pattern-requires : tie.Need-pattern-requires
+pattern-requires c κs = search needs
+
+returns : tie.Need-returns
+unfolding value
+returns c = cc
+
+pub value-spec : {M : Type 1} → statement M
+value-spec = tie.close (tie.spec pattern-requires returns)

@@ -1,0 +1,2 @@
+-- C exports of relative motion.
+pub mod Words

@@ -1,0 +1,114 @@
+-- What the code owes of the answers: their cases, and the verdict on the arguments.
+use mathlib.Core.Path.{_≡_, refl, sym, ap, _∙_}
+use mathlib.Core.Bool.{Bool, true, false, _||_, cond}
+use mathlib.Core.List.{List, _++_}
+use lib.Ieee.{Float, neg, lt, le}
+use Rattle.laws.specs.Ops.{_⊕_, _⊖_, _⊗_, _⊘_}
+use Rattle.math.specs.Sign.{abs}
+use Rattle.time.specs.Clock.{isAccepted, hoursOf}
+use Rattle.time.specs.declared.Duration.{Duration}
+use Rattle.elementary.specs.declared.error.Refusal.{Refusal}
+use Rattle.elementary.specs.declared.error.Refusal.the-variants as Why
+use Rattle.relative_motion.specs.declared.check.Verdict.{Verdict}
+use Rattle.relative_motion.specs.declared.check.Verdict.the-variants.{Accepted, Refused}
+use Rattle.relative_motion.specs.declared.units.Distance.{Distance}
+use Rattle.relative_motion.specs.declared.vessel.Vessel.{Vessel}
+use Rattle.relative_motion.specs.declared.vessel.Contact.{Contact}
+use Rattle.relative_motion.specs.declared.vessel.Components.{Components}
+use Rattle.relative_motion.specs.declared.bow.BowAnswer.{BowAnswer}
+use Rattle.relative_motion.specs.declared.bow.BowAnswer.the-variants as BowAnswer
+use Rattle.relative_motion.specs.declared.plot.PlotAnswer.{PlotAnswer}
+use Rattle.relative_motion.specs.declared.plot.PlotAnswer.the-variants as PlotAnswer
+use Rattle.relative_motion.specs.declared.plot.TargetSolution.{TargetSolution}
+use Rattle.relative_motion.specs.declared.course.Choice.{Choice}
+use Rattle.relative_motion.specs.declared.course.CourseAnswer.{CourseAnswer}
+use Rattle.relative_motion.specs.declared.course.CourseAnswer.the-variants as CourseAnswer
+use Rattle.relative_motion.specs.Check.{zero, verdict, vesselChecks, contactChecks, encounterChecks, distanceChecks}
+use Rattle.relative_motion.specs.Vessel.{unit, offset, relativeVelocity}
+use Rattle.relative_motion.specs.Bow.{parallel, tolerance, notNegative, determinant, crossing, bowBy, bowAnswer}
+use Rattle.relative_motion.specs.Plot.{relativeMotion, solution, solved, plotVerdict, plotBy, plotAnswer}
+use Rattle.relative_motion.specs.Course.{choiceOf, avoidanceOf, courseFor, courseBy, courseAnswer}
+
+-- ---- the crossing
+module _ (range : Float) (position relative ahead : Components) (size : Float) (is : size ≡ abs (relative .north ⊗ neg (ahead .east) ⊖ relative .east ⊗ neg (ahead .north))) where
+  abbrev d : Float
+  d = relative .north ⊗ neg (ahead .east) ⊖ relative .east ⊗ neg (ahead .north)
+
+  abbrev hours : Float
+  hours = (neg (position .north) ⊗ neg (ahead .east) ⊕ position .east ⊗ neg (ahead .north)) ⊘ d
+
+  abbrev rangeAhead : Float
+  rangeAhead = (relative .east ⊗ position .north ⊖ relative .north ⊗ position .east) ⊘ d
+
+  pub on-own-track : lt size parallel ≡ true → BowAnswer.Refused Why.AlongOwnTrack ≡ crossing range position relative ahead
+  unfolding crossing determinant
+  on-own-track h = rw (sym (ap (λ z. lt z parallel) is) ∙ h) refl
+
+  pub in-the-past : lt size parallel ≡ false → le hours zero ≡ true → BowAnswer.Refused Why.NotAhead ≡ crossing range position relative ahead
+  unfolding crossing determinant
+  in-the-past h k = rw (sym (ap (λ z. lt z parallel) is) ∙ h, k) refl
+
+  pub astern : lt size parallel ≡ false → le hours zero ≡ false → lt rangeAhead (neg (range ⊗ tolerance)) ≡ true → BowAnswer.Refused Why.NotAhead ≡ crossing range position relative ahead
+  unfolding crossing determinant
+  astern h k l = rw (sym (ap (λ z. lt z parallel) is) ∙ h, k, l) refl
+
+  pub ahead-of-bow : (r : Float) → lt size parallel ≡ false → le hours zero ≡ false → lt rangeAhead (neg (range ⊗ tolerance)) ≡ false → r ≡ notNegative rangeAhead → BowAnswer.Of (record { 0 = r }) ≡ crossing range position relative ahead
+  unfolding crossing determinant
+  ahead-of-bow r h k l e = rw (sym (ap (λ z. lt z parallel) is) ∙ h, k, l) (ap (λ r. BowAnswer.Of (record { 0 = r })) e)
+
+-- ---- by the verdict v
+module _ (own : Vessel) (contact : Contact) (target : Vessel) (v : Verdict) (is : v ≡ verdict (encounterChecks own contact target) Accepted) where
+  pub crossed : (o r u : Components) (a : BowAnswer) → v ≡ Accepted → o ≡ offset contact → r ≡ relativeVelocity own target → u ≡ unit (own .course .0) → a ≡ crossing (contact .range .0) o r u → a ≡ bowAnswer own contact target
+  unfolding bowAnswer
+  crossed o r u a h eo er eu e =
+      e ∙ ap (λ o. crossing (contact .range .0) o r u) eo ∙ ap (λ r. crossing (contact .range .0) (offset contact) r u) er ∙ ap (λ u. crossing (contact .range .0) (offset contact) (relativeVelocity own target) u) eu
+      ∙ ap (λ w. bowBy w (crossing (contact .range .0) (offset contact) (relativeVelocity own target) (unit (own .course .0)))) (sym h ∙ is)
+
+  pub crossing-refused : (why : Refusal) → v ≡ Refused why → BowAnswer.Refused why ≡ bowAnswer own contact target
+  unfolding bowAnswer
+  crossing-refused why h = ap (λ w. bowBy w (crossing (contact .range .0) (offset contact) (relativeVelocity own target) (unit (own .course .0)))) (sym h ∙ is)
+
+module _ (own : Vessel) (contact : Contact) (target : Vessel) (desired : Distance) (w v : Verdict) (ew : w ≡ verdict (distanceChecks desired) Accepted) (ev : v ≡ verdict (encounterChecks own contact target) w) where
+  checked : v ≡ verdict (encounterChecks own contact target ++ distanceChecks desired) Accepted
+  unfolding verdict encounterChecks
+  checked = ev ∙ ap (verdict (encounterChecks own contact target)) ew
+
+  pub coursed : (a : CourseAnswer) → v ≡ Accepted → a ≡ courseFor own contact target (desired .0) → a ≡ courseAnswer own contact target desired
+  unfolding courseAnswer
+  coursed a h e = e ∙ ap (λ w. courseBy w (courseFor own contact target (desired .0))) (sym h ∙ checked)
+
+  pub course-refused : (why : Refusal) → v ≡ Refused why → CourseAnswer.Refused why ≡ courseAnswer own contact target desired
+  unfolding courseAnswer
+  course-refused why h = ap (λ w. courseBy w (courseFor own contact target (desired .0))) (sym h ∙ checked)
+
+module _ (own : Vessel) (first second : Contact) (elapsed : Duration) (v : Verdict) (is : v ≡ plotVerdict own first second elapsed) where
+  pub plotted : (t : Float) (a : PlotAnswer) → v ≡ Accepted → t ≡ hoursOf elapsed → a ≡ solved own first second t → a ≡ plotAnswer own first second elapsed
+  unfolding plotAnswer
+  plotted t a h et e = e ∙ ap (solved own first second) et ∙ ap (λ w. plotBy w (solved own first second (hoursOf elapsed))) (sym h ∙ is)
+
+  pub plot-refused : (why : Refusal) → v ≡ Refused why → PlotAnswer.Refused why ≡ plotAnswer own first second elapsed
+  unfolding plotAnswer
+  plot-refused why h = ap (λ w. plotBy w (solved own first second (hoursOf elapsed))) (sym h ∙ is)
+
+-- ---- with accepted arguments
+module _ (own : Vessel) (contact : Contact) (target : Vessel) (wanted : Float) where
+  pub inside-desired : le (contact .range .0) wanted ≡ true → CourseAnswer.Refused Why.InsideDesired ≡ courseFor own contact target wanted
+  unfolding courseFor
+  inside-desired h = rw h refl
+
+  pub no-own-speed : le (contact .range .0) wanted ≡ false → le (own .speed .0) zero ≡ true → CourseAnswer.Refused Why.NoOwnSpeed ≡ courseFor own contact target wanted
+  unfolding courseFor
+  no-own-speed h k = rw (h, k) refl
+
+  pub outside-desired : (c : Choice) (a : CourseAnswer) → le (contact .range .0) wanted ≡ false → le (own .speed .0) zero ≡ false → c ≡ choiceOf own contact target wanted → a ≡ avoidanceOf c → a ≡ courseFor own contact target wanted
+  unfolding courseFor
+  outside-desired c a h k ec e = rw (h, k) (e ∙ ap avoidanceOf ec)
+
+module _ (own : Vessel) (first second : Contact) (interval : Float) where
+  pub no-interval : le interval zero ≡ true → PlotAnswer.Refused Why.Time ≡ solved own first second interval
+  unfolding solved
+  no-interval h = rw h refl
+
+  pub some-interval : (m : Components) (s : TargetSolution) → le interval zero ≡ false → m ≡ relativeMotion first second interval → s ≡ solution own second m → PlotAnswer.Of s ≡ solved own first second interval
+  unfolding solved
+  some-interval m s h em e = rw h (ap PlotAnswer.Of (e ∙ ap (solution own second) em))

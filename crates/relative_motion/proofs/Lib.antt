@@ -1,0 +1,4 @@
+-- Laws on relative motion.
+pub mod Answers
+pub mod Approaches
+pub mod Courses

@@ -1,0 +1,14 @@
+use Rattle.relative_motion.specs.Bow.{notNegative}
+use Rattle.relative_motion.proofs.bow.not_negative.Statement.{statement}
+use Rattle.relative_motion.proofs.bow.not_negative.Tie as tie
+
+returns : tie.Need-returns
+unfolding notNegative
+returns c = cc
+
+returns-2 : tie.Need-returns-2
+unfolding notNegative
+returns-2 c = cc
+
+pub not-negative-spec : {M : Type 1} → statement M
+not-negative-spec = tie.close (tie.spec returns returns-2)
