@@ -8,10 +8,14 @@ use std::process::Command;
 use std::{env, fs};
 
 /// The archives with the port's C exports.
-const ARCHIVES: [&str; 3] = ["elementary", "exports", "exports_time"];
+const ARCHIVES: &[&str] = &["elementary", "exports", "exports_time", "exports_motion"];
 
-/// The listed files in use: module name and path below the sources' folder.
-const LISTED: [(&str, &str); 1] = [("math", "crates/kinavis-kernel/src/math.rs")];
+/// The listed files in use: module name and path below the sources' folder. The name `error` is the kernel's.
+const LISTED: &[(&str, &str)] = &[
+    ("math", "crates/kinavis-kernel/src/math.rs"),
+    ("navigation_error", "crates/kinavis/src/error.rs"),
+    ("relative_motion", "crates/kinavis/src/relative_motion.rs"),
+];
 
 fn main() {
     let root = PathBuf::from(env::var("CARGO_MANIFEST_DIR").unwrap()).join("..");
@@ -21,11 +25,7 @@ fn main() {
 
 fn build_archives(root: &Path) {
     for name in ARCHIVES {
-        let status = Command::new("rt")
-            .args(["staticlib", name])
-            .current_dir(root)
-            .status()
-            .expect("`rt` builds the port's archives");
+        let status = Command::new("rt").args(["staticlib", name]).current_dir(root).status().expect("`rt` builds the port's archives");
         assert!(status.success(), "rt staticlib {name} failed");
         println!("cargo:rustc-link-lib=static={name}");
     }

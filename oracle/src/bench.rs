@@ -3,20 +3,21 @@
 use std::hint::black_box;
 use std::time::Instant;
 
+use crate::angle::{wrap180, wrap360};
 use crate::inputs::Random;
-use crate::port;
+use crate::{motion, port};
 
 const COUNT: usize = 4096;
 const ROUNDS: usize = 400;
 
 /// Nanoseconds a call, the best of three runs over the same inputs.
-fn measure(inputs: &[(f64, f64)], f: impl Fn(f64, f64) -> f64) -> f64 {
+fn measure<T: Copy, R>(inputs: &[T], f: impl Fn(T) -> R) -> f64 {
     (0..3)
         .map(|_| {
             let start = Instant::now();
             for _ in 0..ROUNDS {
-                for &(x, y) in inputs {
-                    black_box(f(black_box(x), black_box(y)));
+                for &input in inputs {
+                    black_box(f(black_box(input)));
                 }
             }
             start.elapsed().as_nanos() as f64 / (ROUNDS * inputs.len()) as f64
@@ -25,7 +26,7 @@ fn measure(inputs: &[(f64, f64)], f: impl Fn(f64, f64) -> f64) -> f64 {
 }
 
 fn report(name: &str, inputs: &[(f64, f64)], ours: impl Fn(f64, f64) -> f64, theirs: impl Fn(f64, f64) -> f64) {
-    let (a, b) = (measure(inputs, ours), measure(inputs, theirs));
+    let (a, b) = (measure(inputs, |(x, y)| ours(x, y)), measure(inputs, |(x, y)| theirs(x, y)));
     println!("{name:<24} {a:7.1} ns {b:7.1} ns {:6.2}", a / b);
 }
 
@@ -47,7 +48,19 @@ pub fn all() {
     }
     let points: Vec<(f64, f64)> = (0..COUNT).map(|_| (random.unit() - 0.5, random.unit() - 0.5)).collect();
     report("atan2", &points, port::atan2, f64::atan2);
-    report("wrap360", &pairs, |_, y| port::wrap360(y), |_, y| crate::compare::whole_fold(y));
-    report("wrap180", &pairs, |_, y| port::wrap180(y), |_, y| crate::compare::half_fold(y));
+    report("wrap360", &pairs, |_, y| port::wrap360(y), |_, y| wrap360(y));
+    report("wrap180", &pairs, |_, y| port::wrap180(y), |_, y| wrap180(y));
     report("seconds to nanoseconds", &pairs, |x, _| f64::from(port::time_nanos(x)), |x, _| f64::from(crate::compare::time(x).2));
+    relative_motion();
+}
+
+/// The functions of relative motion on accepted arguments that they don't refuse, beside the Rust on the port's elementary
+/// functions and on the standard library's.
+fn relative_motion() {
+    println!("function                         port  Rust, port's six       Rust  ratio");
+    for f in &motion::FUNCTIONS {
+        let cases = f.answered(COUNT / 4);
+        let (port, six, std) = (measure(&cases, |a| (f.port)(f.parts - 1, a)), measure(&cases, f.rust), measure(&cases, f.rust_std));
+        println!("{:<26} {port:7.1} ns {six:14.1} ns {std:7.1} ns {:6.2}", f.name, port / std);
+    }
 }

@@ -4,7 +4,7 @@ use std::f64::consts::FRAC_PI_4;
 
 use crate::big::{parts, units, Big};
 use crate::inputs::{neighbour, Random};
-use crate::listed::math::to_radians;
+use crate::math::to_radians;
 
 /// Half pi is taken to be HALF_PI / SCALE.
 pub const HALF_PI: u128 = 157_079_632_679_489_661_923;

@@ -2,13 +2,13 @@
 
 use std::time::Duration;
 
+use crate::angle::{wrap180, wrap360};
 use crate::big::{units, Big};
 use crate::inputs::{Random, LIMITS};
-use crate::listed::math;
-use crate::{arcs, circular, method, port};
+use crate::{arcs, circular, math, method, motion, port};
 
 /// Runs a comparison `count` times and reports it; `case` answers the words of a difference.
-fn run(name: &str, count: u64, mut case: impl FnMut(u64, &mut Random) -> Option<String>) -> bool {
+pub fn run(name: &str, count: u64, mut case: impl FnMut(u64, &mut Random) -> Option<String>) -> bool {
     let mut random = Random::new(name.bytes().map(u64::from).sum());
     let mut different = 0u64;
     for i in 0..count {
@@ -96,26 +96,6 @@ pub fn hypotenuse_holds(x: f64, y: f64, r: f64) -> bool {
     let square = |v: f64| units(v).mul(&units(v));
     let (sum, got) = (square(x).add(&square(y)), square(r));
     got.shl(50) <= sum.shl(50).add(&sum) && sum.shl(50) <= got.shl(50).add(&sum)
-}
-
-/// The whole fold as document 01 words it.
-pub fn whole_fold(x: f64) -> f64 {
-    let rest = x % 360.0;
-    let turned = if rest < 0.0 { rest + 360.0 } else { rest };
-    if turned == 360.0 {
-        0.0
-    } else {
-        turned
-    }
-}
-
-pub fn half_fold(x: f64) -> f64 {
-    let whole = whole_fold(x);
-    if whole > 180.0 {
-        whole - 360.0
-    } else {
-        whole
-    }
 }
 
 /// A time by the standard library: kind, seconds, nanoseconds.
@@ -256,9 +236,9 @@ pub fn all(count: u64) -> bool {
         ("round", port::round, math::round),
         ("ceil", port::ceil, math::ceil),
         ("to_radians", port::to_radians, math::to_radians),
-        ("wrap360", port::wrap360, whole_fold),
-        ("wrap180", port::wrap180, half_fold),
-        ("reciprocal", port::reciprocal, |x| whole_fold(x + 180.0)),
+        ("wrap360", port::wrap360, wrap360),
+        ("wrap180", port::wrap180, wrap180),
+        ("reciprocal", port::reciprocal, |x| wrap360(x + 180.0)),
     ];
     for (name, ours, theirs) in unary {
         good &= run(name, count, |i, random| {
@@ -299,6 +279,7 @@ pub fn all(count: u64) -> bool {
         equal(a as f64, port::is_before(a, b, c, d), Duration::new(a, b) < Duration::new(c, d))
     });
     good &= exact_multiplication();
+    good &= motion::compare(count);
     good
 }
 

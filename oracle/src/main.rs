@@ -9,13 +9,13 @@ mod circular;
 mod compare;
 mod inputs;
 mod method;
+mod motion;
 mod port;
 mod vectors;
 
-/// The listed Rust, unchanged.
-mod listed {
-    include!(concat!(env!("OUT_DIR"), "/listed.rs"));
-}
+// The listed Rust, unchanged, on the port's elementary functions.
+include!("kinavis/root.rs");
+use port::{asin, atan2, cos, hypot, sin, sqrt};
 
 fn main() {
     let words: Vec<String> = std::env::args().skip(1).collect();
@@ -26,7 +26,10 @@ fn main() {
                 std::process::exit(1);
             }
         }
-        Some("vectors") => vectors::write(),
+        Some("vectors") => {
+            vectors::write();
+            motion::write();
+        }
         Some("bench") => bench::all(),
         _ => {
             eprintln!("oracle compare [N] | vectors | bench");

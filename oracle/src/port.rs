@@ -5,6 +5,7 @@ macro_rules! exports {
         extern "C" { $(fn $c($($arg: $ty),*) -> $out;)* }
         $(
             #[inline]
+            #[allow(clippy::too_many_arguments)]
             pub fn $rust($($arg: $ty),*) -> $out {
                 // SAFETY: the function is proved for every argument, and keeps nothing.
                 unsafe { $c($($arg),*) }
@@ -37,4 +38,14 @@ exports! {
     hours_nanos = port_hours_nanos(hours: f64) -> u32;
     hours = port_hours(secs: u64, nanos: u32) -> f64;
     is_before = port_is_before(secs: u64, nanos: u32, other_secs: u64, other_nanos: u32) -> bool;
+    cpa = motion_cpa(part: u32, own_course: f64, own_speed: f64, bearing: f64, range: f64, course: f64, speed: f64) -> u64;
+    passing = motion_passing(part: u32, own_course: f64, own_speed: f64, bearing: f64, range: f64, course: f64, speed: f64) -> u64;
+    plot = motion_plot(
+        part: u32, own_course: f64, own_speed: f64, bearing: f64, range: f64, bearing2: f64, range2: f64, secs: u64, nanos: u32
+    ) -> u64;
+    bow = motion_bow(part: u32, own_course: f64, own_speed: f64, bearing: f64, range: f64, course: f64, speed: f64) -> u64;
+    course = motion_course(
+        part: u32, own_course: f64, own_speed: f64, bearing: f64, range: f64, course: f64, speed: f64, desired: f64
+    ) -> u64;
+    bearing = motion_bearing(part: u32, own_course: f64, own_speed: f64, bearing: f64, range: f64) -> u64;
 }

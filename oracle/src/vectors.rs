@@ -3,11 +3,11 @@
 use std::fs;
 use std::path::Path;
 
+use crate::angle::{wrap180, wrap360};
 use crate::arcs::{arcsine_input, arctangent_input};
-use crate::compare::{angle_input, half_fold, hypot_input, hypotenuse_holds, time, whole_fold};
+use crate::compare::{angle_input, hypot_input, hypotenuse_holds, time};
 use crate::inputs::{Random, LIMITS};
-use crate::listed::math;
-use crate::{method, port};
+use crate::{math, method, port};
 
 /// The pattern that stands for every NaN.
 const NAN: u64 = 0x7ff8_0000_0000_0000;
@@ -15,7 +15,7 @@ const NAN: u64 = 0x7ff8_0000_0000_0000;
 /// Records for each function.
 const EACH: u64 = 120;
 
-fn pattern(x: f64) -> u64 {
+pub fn pattern(x: f64) -> u64 {
     if x.is_nan() {
         NAN
     } else {
@@ -62,9 +62,9 @@ fn answer(which: u64, a: u64, b: u64) -> u64 {
         6 => pattern(math::ceil(x)),
         7 => pattern(math::to_radians(x)),
         8 => pattern(math::to_degrees(x)),
-        9 | 12 => pattern(whole_fold(x)),
-        10 => pattern(half_fold(x)),
-        11 => pattern(whole_fold(x + 180.0)),
+        9 | 12 => pattern(wrap360(x)),
+        10 => pattern(wrap180(x)),
+        11 => pattern(wrap360(x + 180.0)),
         13 => pattern(method::sine(x)),
         14 => pattern(method::cosine(x)),
         15 => pattern(method::arcsine(x)),
@@ -117,19 +117,24 @@ fn arguments(which: u64, i: u64, random: &mut Random) -> (u64, u64) {
     }
 }
 
+/// Stores what a program of the port reads, records of little-endian words, and what it then has to print.
+pub fn store(program: &str, records: &[u64], answers: &[u64]) {
+    let folder = Path::new(env!("CARGO_MANIFEST_DIR")).join("../crates").join(program);
+    let bytes: Vec<u8> = records.iter().flat_map(|word| word.to_le_bytes()).collect();
+    let lines: String = answers.iter().map(|answer| format!("{answer:016x}\n")).collect();
+    fs::write(folder.join("stdin"), bytes).unwrap();
+    fs::write(folder.join("stdout"), lines).unwrap();
+}
+
 pub fn write() {
-    let folder = Path::new(env!("CARGO_MANIFEST_DIR")).join("../crates/elementary_main");
     let mut random = Random::new(11);
-    let (mut records, mut answers) = (Vec::new(), String::new());
+    let (mut records, mut answers) = (Vec::new(), Vec::new());
     for which in (0..=16).chain(20..=38) {
         for i in 0..EACH {
             let (a, b) = arguments(which, i, &mut random);
-            for word in [which, a, b] {
-                records.extend_from_slice(&word.to_le_bytes());
-            }
-            answers += &format!("{:016x}\n", answer(which, a, b));
+            records.extend([which, a, b]);
+            answers.push(answer(which, a, b));
         }
     }
-    fs::write(folder.join("stdin"), records).unwrap();
-    fs::write(folder.join("stdout"), answers).unwrap();
+    store("elementary_main", &records, &answers);
 }

@@ -1,6 +1,6 @@
 -- The answers as the C exports give them: six words.
 use mathlib.Core.Bool.{cond}
-use Prim.Native.Nat.{ℕ, _^_, _%_}
+use Prim.Native.Nat.{ℕ}
 use lib.Dec.{eqb}
 use lib.Ieee.{Float, binary64, eq, toBits}
 use Rattle.elementary.specs.Refusal.{numberOf}
@@ -118,4 +118,4 @@ abbrev pub distance : Float → Distance
 distance nm = record { 0 = nm }
 
 abbrev pub elapsed : ℕ → ℕ → Duration
-elapsed secs nanos = record { secs = secs; nanos = nanos % 2 ^ 32 }
+elapsed secs nanos = record { secs = secs; nanos = nanos }

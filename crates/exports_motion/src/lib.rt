@@ -365,7 +365,6 @@ pub extern "C" fn motion_course(
     )
 }
 
-// The nanoseconds' low 32 digits count.
 #[no_mangle]
 pub extern "C" fn motion_plot(
     part: u32,
@@ -376,13 +375,13 @@ pub extern "C" fn motion_plot(
     b2: f64,
     r2: f64,
     secs: u64,
-    nanos: u64,
+    nanos: u32,
 ) -> u64
     ensures { λ r. ⌜ r ≡ Spec.word (Spec.plotWords (Plot.plotAnswer (Spec.vessel oc os) (Spec.contact b1 r1) (Spec.contact b2 r2) (Spec.elapsed secs nanos))) part ⌝ }
 {
     let elapsed = Duration {
         secs: secs,
-        nanos: (nanos % 4294967296) as u32,
+        nanos: nanos,
     };
     word(
         plot_words(relative_motion::plot::target_from_plot(

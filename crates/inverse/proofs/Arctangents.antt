@@ -45,7 +45,7 @@ placed-few true false t h = omega arith
 placed-few false true t h = omega arith
 placed-few true true t h = omega arith
 
-angle-few : (left : Bool) (x y : ℕ) → angleSteps left x y < 2 ^ 53
+pub angle-few : (left : Bool) (x y : ℕ) → angleSteps left x y < 2 ^ 53
 unfolding angleSteps
 angle-few left x y = go (eqb y 0) (eqb x 0) (ltb x y) left
   where

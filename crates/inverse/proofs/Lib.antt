@@ -2,3 +2,4 @@
 pub mod Arcsines
 pub mod Arctangents
 pub mod Octants
+pub mod Sizes

@@ -1,11 +1,11 @@
 -- What the code owes of the answers: their cases, and the verdict on the arguments.
 use mathlib.Core.Path.{_≡_, refl, sym, ap, _∙_}
-use mathlib.Core.Bool.{Bool, true, false, _||_, cond}
-use mathlib.Core.List.{List, _++_}
+use mathlib.Core.Bool.{true, false}
+use mathlib.Core.List.{_++_}
 use lib.Ieee.{Float, neg, lt, le}
 use Rattle.laws.specs.Ops.{_⊕_, _⊖_, _⊗_, _⊘_}
 use Rattle.math.specs.Sign.{abs}
-use Rattle.time.specs.Clock.{isAccepted, hoursOf}
+use Rattle.time.specs.Clock.{hoursOf}
 use Rattle.time.specs.declared.Duration.{Duration}
 use Rattle.elementary.specs.declared.error.Refusal.{Refusal}
 use Rattle.elementary.specs.declared.error.Refusal.the-variants as Why
@@ -23,7 +23,7 @@ use Rattle.relative_motion.specs.declared.plot.TargetSolution.{TargetSol
 use Rattle.relative_motion.specs.declared.course.Choice.{Choice}
 use Rattle.relative_motion.specs.declared.course.CourseAnswer.{CourseAnswer}
 use Rattle.relative_motion.specs.declared.course.CourseAnswer.the-variants as CourseAnswer
-use Rattle.relative_motion.specs.Check.{zero, verdict, vesselChecks, contactChecks, encounterChecks, distanceChecks}
+use Rattle.relative_motion.specs.Check.{zero, verdict, encounterChecks, distanceChecks}
 use Rattle.relative_motion.specs.Vessel.{unit, offset, relativeVelocity}
 use Rattle.relative_motion.specs.Bow.{parallel, tolerance, notNegative, determinant, crossing, bowBy, bowAnswer}
 use Rattle.relative_motion.specs.Plot.{relativeMotion, solution, solved, plotVerdict, plotBy, plotAnswer}

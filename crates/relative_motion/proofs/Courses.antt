@@ -2,9 +2,9 @@
 use mathlib.Core.Path.{_≡_, refl, sym, ap, _∙_}
 use mathlib.Core.Bool.{Bool, true, false, _&&_, cond}
 use lib.Ieee.{Float, neg, lt, le}
-use Rattle.laws.specs.Ops.{_⊕_, _⊖_, _⊗_, _⊘_}
+use Rattle.laws.specs.Ops.{_⊕_, _⊖_, _⊗_}
 use Rattle.math.specs.Convert.{toDegrees}
-use Rattle.angle.specs.Fold.{wholeFold, halfFold}
+use Rattle.angle.specs.Fold.{halfFold}
 use Rattle.root.specs.Sqrt.{sqrt}
 use Rattle.inverse.specs.Atan2.{atan2}
 use Rattle.elementary.specs.declared.error.Refusal.the-variants as Why

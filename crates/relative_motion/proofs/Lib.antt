@@ -1,4 +1,7 @@
 -- Laws on relative motion.
 pub mod Answers
 pub mod Approaches
+pub mod Corners
 pub mod Courses
+pub mod Finite
+pub mod Sizes

@@ -4,4 +4,5 @@ pub mod Bow
 pub mod Check
 pub mod Course
 pub mod Plot
+pub mod Sound
 pub mod Vessel

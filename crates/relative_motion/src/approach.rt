@@ -108,12 +108,12 @@ pub fn passing_from(range: Distance, offset: Components, relative: Components) -
         return Pass::Stationary(range);
     }
     let closing_rate = offset.north * relative.north + offset.east * relative.east;
-    let time = -closing_rate / (relative_speed * relative_speed);
-    if time <= 0.0 {
+    let hours = -closing_rate / (relative_speed * relative_speed);
+    if hours <= 0.0 {
         return Pass::Opening(range);
     }
-    let closest_north = offset.north + relative.north * time;
-    let closest_east = offset.east + relative.east * time;
+    let closest_north = offset.north + relative.north * hours;
+    let closest_east = offset.east + relative.east * hours;
     Pass::Closing(Distance(root::hypot(closest_north, closest_east)))
 }
 

@@ -1,6 +1,7 @@
 -- Laws on the roots.
 pub mod HypotBound
 pub mod HypotCode
+pub mod HypotSize
 pub mod NearestSqrt
 pub mod OneDigitMore
 pub mod SqrtCode

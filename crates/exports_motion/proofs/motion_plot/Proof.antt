@@ -2,9 +2,6 @@ use borrow.Author.Needs.{needs}
 use Rattle.exports_motion.proofs.motion_plot.Statement.{statement}
 use Rattle.exports_motion.proofs.motion_plot.Tie as tie
 
-cast-t12 : tie.Need-cast-t12
-cast-t12 c = search needs
-
 vessel-requires : tie.Need-vessel-requires
 vessel-requires c κs = search needs
 
@@ -30,7 +27,6 @@ pub motion-plot-spec : {M : Type 1} → statement M
 motion-plot-spec =
     tie.close
     (tie.spec
-    cast-t12
     vessel-requires
     contact-requires
     contact-requires-2
