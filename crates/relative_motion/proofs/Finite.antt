@@ -53,7 +53,7 @@ use Rattle.relative_motion.specs.Approach.{stationaryKnots, timeToGo, re
 use Rattle.relative_motion.proofs.Sizes.{Sized, all-good, direction-small, distance-small, degrees-small, direction-domain, unit-small, sized}
 
 -- what is not at most 0 has its sign clear
-clear : (x : Float) → T (fits binary64 x) → T (finite x) → le x Check.zero ≡ false → sign x ≡ false
+pub clear : (x : Float) → T (fits binary64 x) → T (finite x) → le x Check.zero ≡ false → sign x ≡ false
 clear x t f h = go (sign x) refl
   where
     go : (s : Bool) → sign x ≡ s → s ≡ false

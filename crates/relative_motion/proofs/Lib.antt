@@ -4,4 +4,6 @@ pub mod Approaches
 pub mod Corners
 pub mod Courses
 pub mod Finite
+pub mod Plots
 pub mod Sizes
+pub mod Tracks

@@ -19,6 +19,7 @@ use Rattle.laws.proofs.Size.{units-small, mul-small, sub-small, div-small, smal
 use Rattle.math.specs.Sign.{abs}
 use Rattle.math.specs.Convert.{degreesPerRadian, toRadians, toDegrees}
 use Rattle.math.proofs.Sign.{abs-units}
+use Rattle.angle.specs.Fold.{halfTurn}
 use Rattle.circular.specs.Sine as Sine
 use Rattle.circular.proofs.Sizes.{sin-small, cos-small}
 use Rattle.elementary.specs.Range.{inRange}
@@ -61,15 +62,18 @@ pub distance-small : (d : Distance) → T (fits binary64 (d .0)) → T (isDistan
 unfolding isDistance inRange
 distance-small d t h = small-of-tests (d .0) farthest (10000 * 2 ^ 1074) 14 t (unfold ofBits in (refl, refl)) (lit≤ tt) (unfold ofBits in and-l (le zero (d .0)) (le (d .0) farthest) h) (and-r (le zero (d .0)) (le (d .0) farthest) h)
 
+pub half-turn-small : Small 9 0 halfTurn
+half-turn-small = small-of-value halfTurn false (180 * 2 ^ 1074) (2 ^ 1074) 9 0 (unfold ofBits fits in tt) (pow-pos 1074) (unfold ofBits in (refl, refl)) (lit≤ tt)
+
 -- ---- radians: a degree is less than 1 / 32 of one, and more than 1 / 64
-constant : degreesPerRadian ≡ fin false 1007958012753983 (negsuc 43)
+pub constant : degreesPerRadian ≡ fin false 1007958012753983 (negsuc 43)
 unfolding degreesPerRadian
 constant = unfold div ofBits round in refl
 
 constant-least : AtLeast 5 0 degreesPerRadian
 constant-least = subst (AtLeast 5 0) (sym constant) (least-of-value (fin false 1007958012753983 (negsuc 43)) false 1007958012753983 (2 ^ 44) 5 0 (unfold fits in tt) (pow-pos (44)) (refl, refl) (lit≤ tt))
 
-constant-small : Small 6 0 degreesPerRadian
+pub constant-small : Small 6 0 degreesPerRadian
 constant-small = subst (Small 6 0) (sym constant) (small-of-value (fin false 1007958012753983 (negsuc 43)) false 1007958012753983 (2 ^ 44) 6 0 (unfold fits in tt) (pow-pos (44)) (refl, refl) (lit≤ tt))
 
 pub radians-small : {x : Float} → Small 9 0 x → Small 9 5 (toRadians x)
@@ -112,6 +116,10 @@ module _ (d : Direction) (t : T (fits binary64 (d .0))) (h : T (isDirection d)) 
       fit : {y : Float} → Small (p + 0) 0 y → Small p 0 y
       fit {y} a = subst (λ k. Small k 0 y) (same p) a
 
+pub velocity-small : (v : Vessel) → HeldVessel v → T (isDirection (v .course)) → T (isSpeed (v .speed)) → Small 10 0 (velocity v .north) × Small 10 0 (velocity v .east)
+unfolding velocity
+velocity-small v h c s = resolved-small (v .course) (h .course) c (v .speed .0) (lit< tt) (speed-small (v .speed) (h .speed) s)
+
 pub record Sized (position relative : Components) : Type 0 where
   pub position-north : Small 14 0 (position .north)
   pub position-east : Small 14 0 (position .east)
@@ -121,9 +129,9 @@ pub record Sized (position relative : Components) : Type 0 where
 module _ (own : Vessel) (contact : Contact) (target : Vessel) (ho : HeldVessel own) (hc : HeldContact contact) (ht : HeldVessel target)
     (oc : T (isDirection (own .course))) (os : T (isSpeed (own .speed))) (cb : T (isDirection (contact .bearing))) (cr : T (isDistance (contact .range))) (tc : T (isDirection (target .course))) (ts : T (isSpeed (target .speed))) where
   pub sized : Sized (offset contact) (relativeVelocity own target)
-  unfolding offset relativeVelocity velocity difference
+  unfolding offset relativeVelocity difference
   sized =
       let o = resolved-small (contact .bearing) (hc .bearing) cb (contact .range .0) (lit< tt) (distance-small (contact .range) (hc .range) cr) in
-      let v = resolved-small (own .course) (ho .course) oc (own .speed .0) (lit< tt) (speed-small (own .speed) (ho .speed) os) in
-      let w = resolved-small (target .course) (ht .course) tc (target .speed .0) (lit< tt) (speed-small (target .speed) (ht .speed) ts) in
+      let v = velocity-small own ho oc os in
+      let w = velocity-small target ht tc ts in
       record { position-north = o .0; position-east = o .1; relative-north = sub-small {p = 10} {q = 0} (lit≤ tt) (lit< tt) (w .0) (v .0); relative-east = sub-small {p = 10} {q = 0} (lit≤ tt) (lit< tt) (w .1) (v .1) }

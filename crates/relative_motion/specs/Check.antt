@@ -6,7 +6,7 @@ use Rattle.elementary.specs.declared.error.Refusal.{Refusal}
 use Rattle.elementary.specs.declared.error.Refusal.the-variants as Why
 use Rattle.elementary.specs.Range.{inRange}
 use Rattle.relative_motion.specs.declared.check.Verdict.{Verdict}
-use Rattle.relative_motion.specs.declared.check.Verdict.the-variants.{Accepted, Refused}
+use Rattle.relative_motion.specs.declared.check.Verdict.the-variants.{Refused}
 use Rattle.relative_motion.specs.declared.units.Direction.{Direction}
 use Rattle.relative_motion.specs.declared.units.Speed.{Speed}
 use Rattle.relative_motion.specs.declared.units.Distance.{Distance}

@@ -1,13 +1,13 @@
 -- What holds of the figures in any answer: they are finite, whatever the arguments were. And of the way to them, on accepted arguments: each elementary function is called inside its domain, and a time worked out is not cut.
 use mathlib.Core.Path.{_≡_}
-use mathlib.Core.Bool.{true, false, _&&_}
+use mathlib.Core.Bool.{false, _&&_}
 use mathlib.Core.List.{List, [], _∷_}
 use lib.Dec.{T}
-use lib.Ieee.{Float, binary64, fits, lt, le}
+use lib.Ieee.{binary64, fits, lt, le}
 use lib.Ieee.Scale.{finite}
 use Rattle.laws.specs.Ops.{_⊗_}
 use Rattle.math.specs.Convert.{toRadians}
-use Rattle.angle.specs.Fold.{IsDirection}
+use Rattle.angle.specs.Fold.{IsDirection, IsDifference}
 use Rattle.time.specs.Clock.{secondsPerHour, clock, nanosIn, fromHours}
 use Rattle.time.specs.declared.TimeAnswer.the-variants as Time
 use Rattle.root.specs.Hypot as Hypot
@@ -26,6 +26,13 @@ use Rattle.relative_motion.specs.declared.approach.BearingAnswer.{Bearin
 use Rattle.relative_motion.specs.declared.approach.BearingAnswer.the-variants as BearingAnswer
 use Rattle.relative_motion.specs.declared.bow.BowAnswer.{BowAnswer}
 use Rattle.relative_motion.specs.declared.bow.BowAnswer.the-variants as BowAnswer
+use Rattle.relative_motion.specs.declared.plot.TargetSolution.{TargetSolution}
+use Rattle.relative_motion.specs.declared.plot.PlotAnswer.{PlotAnswer}
+use Rattle.relative_motion.specs.declared.plot.PlotAnswer.the-variants as PlotAnswer
+use Rattle.relative_motion.specs.declared.course.Alteration.{Alteration}
+use Rattle.relative_motion.specs.declared.course.Alteration.the-variants as Alteration
+use Rattle.relative_motion.specs.declared.course.CourseAnswer.{CourseAnswer}
+use Rattle.relative_motion.specs.declared.course.CourseAnswer.the-variants as CourseAnswer
 use Rattle.relative_motion.specs.Check.{zero, Check}
 use Rattle.relative_motion.specs.Vessel.{offset, relativeVelocity}
 use Rattle.relative_motion.specs.Approach.{stationaryKnots, relativeSpeed, timeOf, closest}
@@ -67,6 +74,25 @@ FiniteBearing (BearingAnswer.Refused why) = Unit {0}
 abbrev pub FiniteBow : BowAnswer → Type 0
 FiniteBow (BowAnswer.Of d) = T (finite (d .0))
 FiniteBow (BowAnswer.Refused why) = Unit {0}
+
+pub record FiniteSolution (s : TargetSolution) : Type 0 where
+  pub course : IsDirection (s .vessel .course .0)
+  pub speed : T (finite (s .vessel .speed .0))
+  pub relative-course : IsDirection (s .«relative_course» .0)
+  pub relative-speed : T (finite (s .«relative_speed» .0))
+  pub aspect : IsDifference (s .aspect .0)
+
+abbrev pub FinitePlot : PlotAnswer → Type 0
+FinitePlot (PlotAnswer.Of s) = FiniteSolution s
+FinitePlot (PlotAnswer.Refused why) = Unit {0}
+
+abbrev pub FiniteAlteration : Alteration → Type 0
+FiniteAlteration Alteration.Nothing = Unit {0}
+FiniteAlteration (Alteration.To d) = IsDirection (d .0)
+
+abbrev pub FiniteCourse : CourseAnswer → Type 0
+FiniteCourse (CourseAnswer.Of a) = FiniteAlteration (a .starboard) × FiniteAlteration (a .port)
+FiniteCourse (CourseAnswer.Refused why) = Unit {0}
 
 -- ---- the way to a closest point of approach, from a position and a relative velocity
 pub record Way (position relative : Components) : Type 0 where

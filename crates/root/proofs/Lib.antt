@@ -5,4 +5,5 @@ pub mod HypotSize
 pub mod NearestSqrt
 pub mod OneDigitMore
 pub mod SqrtCode
+pub mod SqrtSize
 pub mod WholeRoots
