@@ -4,5 +4,4 @@ pub mod Bow
 pub mod Check
 pub mod Course
 pub mod Plot
-pub mod Sound
 pub mod Vessel

@@ -29,12 +29,12 @@ pub enum CourseAnswer {
 }
 
 // The best course so far on a side: by how much it alters, and the course.
-enum Best {
+pub enum Best {
     Nothing,
     By(f64, f64),
 }
 
-struct Choice {
+pub struct Choice {
     starboard: Best,
     port: Best,
 }

@@ -32,25 +32,25 @@ use Rattle.math.specs.Convert.{toDegrees}
 use Rattle.math.specs.Sign.{abs}
 use Rattle.math.proofs.Sign.{abs-fits, abs-units, units-of-abs}
 use Rattle.elementary.specs.declared.error.Refusal.the-variants as Why
 use Rattle.relative_motion.specs.declared.approach.CpaAnswer.{CpaAnswer}
 use Rattle.relative_motion.specs.declared.approach.CpaAnswer.the-variants as CpaAnswer
 use Rattle.relative_motion.specs.declared.bow.BowAnswer.the-variants as BowAnswer
 use Rattle.relative_motion.specs.Bow.{parallel, tolerance, notNegative, determinant, crossing, bowBy, bowAnswer}
 use Rattle.inverse.specs.Atan2.{atan2}
 use Rattle.inverse.proofs.Sizes.{atan2-small}
 use Rattle.relative_motion.specs.declared.check.Verdict.{Verdict}
 use Rattle.relative_motion.specs.declared.check.Verdict.the-variants as Verdict
 use Rattle.relative_motion.specs.declared.units.Distance.{Distance}
 use Rattle.relative_motion.specs.declared.vessel.Vessel.{Vessel}
 use Rattle.relative_motion.specs.declared.vessel.Contact.{Contact}
 use Rattle.relative_motion.specs.declared.vessel.Components.{Components}
 use Rattle.relative_motion.specs.declared.approach.Approach.the-variants.{Closing, Opening, Stationary}
 use Rattle.relative_motion.specs.Check.{verdict, vesselChecks, contactChecks, encounterChecks}
 use Rattle.relative_motion.specs.Vessel.{unit, directionOf, offset, relativeVelocity}
-use Rattle.relative_motion.specs.Sound.{HeldVessel, HeldContact, AllGood, FiniteApproach, FiniteCpa, FinitePass, FiniteBearing, FiniteBow, Way, CpaWay}
+use Rattle.motion_laws.specs.Sound.{HeldVessel, HeldContact, AllGood, FiniteApproach, FiniteCpa, FinitePass, FiniteBearing, FiniteBow, Way, CpaWay}
 use Rattle.relative_motion.specs.Check as Check
 use Rattle.relative_motion.specs.Approach.{stationaryKnots, timeToGo, relativeSpeed, closingRate, timeOf, closest, approachFrom, approach, cpaBy, cpaAnswer, passingOfAnswer, passingAnswer, bearingBy, bearingAnswer}
-use Rattle.relative_motion.proofs.Sizes.{Sized, all-good, direction-small, distance-small, degrees-small, direction-domain, unit-small, sized}
+use Rattle.motion_laws.proofs.Sizes.{Sized, all-good, direction-small, distance-small, degrees-small, direction-domain, unit-small, sized}
 
 -- what is not at most 0 has its sign clear
 pub clear : (x : Float) → T (fits binary64 x) → T (finite x) → le x Check.zero ≡ false → sign x ≡ false

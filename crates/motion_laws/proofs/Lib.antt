@@ -1,0 +1,6 @@
+-- Laws on relative motion.
+pub mod Corners
+pub mod Finite
+pub mod Plots
+pub mod Sizes
+pub mod Tracks

@@ -1,0 +1,2 @@
+-- What is proved of relative motion.
+pub mod Sound

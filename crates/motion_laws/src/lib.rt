@@ -1,0 +1,1 @@
+// Laws on relative motion: its answers are finite, its functions are called inside their domains, its corners. There is no code.
