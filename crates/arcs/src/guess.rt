@@ -1,5 +1,6 @@
 // Guesses at the step that a search looks for, in f64 operations. They are the step or its neighbour for nearly every
-// argument, and nothing rests on them but the speed: the search accepts no step that its checks do not settle.
+// argument, and nothing rests on them but the speed: the search accepts no step that its checks do not settle. No other
+// crate sees them: their outcome is free, and they promise nothing of it.
 //
 // The quotients of polynomials are the best of their degrees, in the angle's absolute error: about 10^-17 for the arctangent,
 // 4 * 10^-17 for the arcsine up to a quarter pi, 9 * 10^-17 for the rest.
@@ -24,7 +25,7 @@ fn steps(angle: f64) -> u64 {
 }
 
 // The arcsine of x units, up to a quarter pi.
-pub fn sine(x: u64) -> u64
+pub(crate) fn sine(x: u64) -> u64
     requires { ⌜ x ≤ 2 ^ 58 ⌝ }
 {
     let s = (x / 32) as f64 * GRID;
@@ -46,7 +47,7 @@ pub fn sine(x: u64) -> u64
 }
 
 // The arctangent of w / u, for w up to u.
-pub fn tangent(u: u64, w: u64) -> u64
+pub(crate) fn tangent(u: u64, w: u64) -> u64
     requires { ⌜ (u ≤ 2 ^ 58) × (w ≤ 2 ^ 58) ⌝ }
 {
     let t = (w / 32) as f64 / (u / 32) as f64;
@@ -75,7 +76,7 @@ fn nearer(v: f64, y: f64) -> f64 {
 
 // f times the angle whose cosine is e units below one, for e * f^2 from 2^54 to 0.293 * 2^58: twice the arcsine of the root
 // of half that rest.
-pub fn rest(e: u64, f: u64) -> u64
+pub(crate) fn rest(e: u64, f: u64) -> u64
     requires { ⌜ (e ≤ 2 ^ 58) × (f ≤ 2 ^ 28) × (e * (f * f) ≤ 2 ^ 58) ⌝ }
 {
     let v = (e * (f * f) / 32) as f64 * HALF_GRID;
