@@ -6,9 +6,9 @@ use lib.Ieee.{Float, binary64, eq, toBits}
 use Rattle.elementary.specs.Refusal.{numberOf}
 use Rattle.elementary.specs.declared.error.Refusal.{Refusal}
 use Rattle.time.specs.declared.Duration.{Duration}
-use Rattle.relative_motion.specs.declared.units.Distance.{Distance}
-use Rattle.relative_motion.specs.declared.vessel.Vessel.{Vessel}
-use Rattle.relative_motion.specs.declared.vessel.Contact.{Contact}
+use Rattle.motion.specs.declared.units.Distance.{Distance}
+use Rattle.motion.specs.declared.vessel.Vessel.{Vessel}
+use Rattle.motion.specs.declared.vessel.Contact.{Contact}
 use Rattle.relative_motion.specs.declared.approach.Cpa.{Cpa}
 use Rattle.relative_motion.specs.declared.approach.Approach.{Approach}
 use Rattle.relative_motion.specs.declared.approach.Approach.the-variants as Approach
@@ -25,11 +25,11 @@ use Rattle.relative_motion.specs.declared.bow.BowAnswer.the-variants as BowAnsw
 use Rattle.relative_motion.specs.declared.plot.TargetSolution.{TargetSolution}
 use Rattle.relative_motion.specs.declared.plot.PlotAnswer.{PlotAnswer}
 use Rattle.relative_motion.specs.declared.plot.PlotAnswer.the-variants as PlotAnswer
-use Rattle.relative_motion.specs.declared.course.Alteration.{Alteration}
-use Rattle.relative_motion.specs.declared.course.Alteration.the-variants as Alteration
-use Rattle.relative_motion.specs.declared.course.Avoidance.{Avoidance}
-use Rattle.relative_motion.specs.declared.course.CourseAnswer.{CourseAnswer}
-use Rattle.relative_motion.specs.declared.course.CourseAnswer.the-variants as CourseAnswer
+use Rattle.course.specs.declared.Alteration.{Alteration}
+use Rattle.course.specs.declared.Alteration.the-variants as Alteration
+use Rattle.course.specs.declared.Avoidance.{Avoidance}
+use Rattle.course.specs.declared.CourseAnswer.{CourseAnswer}
+use Rattle.course.specs.declared.CourseAnswer.the-variants as CourseAnswer
 use Rattle.exports_motion.specs.declared.Words.{Words}
 
 unfoldable pub word : Words → ℕ → ℕ

@@ -3,10 +3,18 @@
 ghost use mathlib.Core.Path.{_≡_};
 ghost use Rattle.relative_motion.specs.Approach as Motion;
 ghost use Rattle.relative_motion.specs.Bow as Bow;
-ghost use Rattle.relative_motion.specs.Course as Course;
+ghost use Rattle.course.specs.Course as Course;
 ghost use Rattle.relative_motion.specs.Plot as Plot;
 ghost use Rattle.exports_motion.specs.Words as Spec;
+use course::Alteration;
+use course::Avoidance;
+use course::CourseAnswer;
 use elementary::error::Refusal;
+use motion::units::Direction;
+use motion::units::Distance;
+use motion::units::Speed;
+use motion::vessel::Contact;
+use motion::vessel::Vessel;
 use relative_motion::approach::Approach;
 use relative_motion::approach::BearingAnswer;
 use relative_motion::approach::Cpa;
@@ -14,16 +22,8 @@ use relative_motion::approach::CpaAnswer;
 use relative_motion::approach::Pass;
 use relative_motion::approach::PassAnswer;
 use relative_motion::bow::BowAnswer;
-use relative_motion::course::Alteration;
-use relative_motion::course::Avoidance;
-use relative_motion::course::CourseAnswer;
 use relative_motion::plot::PlotAnswer;
 use relative_motion::plot::TargetSolution;
-use relative_motion::units::Direction;
-use relative_motion::units::Distance;
-use relative_motion::units::Speed;
-use relative_motion::vessel::Contact;
-use relative_motion::vessel::Vessel;
 use time::Duration;
 
 // The number of a refusal, and up to five values.
@@ -355,7 +355,7 @@ pub extern "C" fn motion_course(
     ensures { λ r. ⌜ r ≡ Spec.word (Spec.courseWords (Course.courseAnswer (Spec.vessel oc os) (Spec.contact bearing range) (Spec.vessel tc ts) (Spec.distance desired))) part ⌝ }
 {
     word(
-        course_words(relative_motion::course::course_for_cpa(
+        course_words(course::course_for_cpa(
             vessel(oc, os),
             contact(bearing, range),
             vessel(tc, ts),

@@ -25,20 +25,20 @@ use Rattle.arcs.specs.Arctangent.{notAbove, arctangentSteps, placed}
 use Rattle.inverse.specs.Asin as asin
 use Rattle.inverse.specs.Atan2.{scaledBy, octant, angleSteps, bothFinite, atan2}
 use Rattle.elementary.specs.Range.{inRange}
-use Rattle.relative_motion.specs.declared.units.Distance.{Distance}
-use Rattle.relative_motion.specs.declared.vessel.Vessel.{Vessel}
-use Rattle.relative_motion.specs.declared.vessel.Contact.{Contact}
+use Rattle.motion.specs.declared.units.Distance.{Distance}
+use Rattle.motion.specs.declared.vessel.Vessel.{Vessel}
+use Rattle.motion.specs.declared.vessel.Contact.{Contact}
 use Rattle.relative_motion.specs.declared.approach.CpaAnswer.{CpaAnswer}
 use Rattle.relative_motion.specs.declared.approach.CpaAnswer.the-variants as CpaAnswer
-use Rattle.relative_motion.specs.declared.course.Best.{Best}
-use Rattle.relative_motion.specs.declared.course.Best.the-variants as Best
-use Rattle.relative_motion.specs.declared.course.Choice.{Choice}
-use Rattle.relative_motion.specs.Check.{verdict, isDirection, isSpeed, isDistance, encounterChecks}
-use Rattle.relative_motion.specs.Vessel.{unit, resolved, directionOf, velocity, offset, difference, relativeVelocity}
+use Rattle.course.specs.declared.Best.{Best}
+use Rattle.course.specs.declared.Best.the-variants as Best
+use Rattle.course.specs.declared.Choice.{Choice}
+use Rattle.motion.specs.Check.{verdict, isDirection, isSpeed, isDistance, encounterChecks}
+use Rattle.motion.specs.Vessel.{unit, resolved, directionOf, velocity, offset, difference, relativeVelocity}
 use Rattle.relative_motion.specs.Approach.{timeToGo, relativeSpeed, closingRate, timeOf, closest, approachFrom, approach, cpaAnswer, cpaNumber, approachKind}
 use Rattle.relative_motion.specs.Bow.{notNegative, determinant, crossing, bowAnswer, bowNumber}
 use Rattle.relative_motion.specs.Plot.{relativeMotion, targetOf, solution, solved, plotChecks, plotVerdict, plotAnswer, plotNumber}
-use Rattle.relative_motion.specs.Course.{clamped, grazing, offered, atSpeed, along, choiceOf, avoidanceOf, courseFor, courseAnswer, courseNumber}
+use Rattle.course.specs.Course.{clamped, grazing, offered, atSpeed, along, choiceOf, avoidanceOf, courseFor, courseAnswer, courseNumber}
 
 -- a computed figure and what it must be
 pub record Row : Type 0 where

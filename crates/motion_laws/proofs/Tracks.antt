@@ -28,27 +28,27 @@ use Rattle.inverse.specs.Atan2.{atan2}
 use Rattle.inverse.proofs.Arctangents.{not-nan}
 use Rattle.inverse.proofs.Sizes.{asin-small, atan2-small}
 use Rattle.elementary.specs.Range.{inRange}
-use Rattle.relative_motion.specs.declared.vessel.Contact.{Contact}
-use Rattle.relative_motion.specs.Check.{verdict, encounterChecks, distanceChecks, isDirection, isDistance}
-use Rattle.relative_motion.specs.Check as Check
-use Rattle.relative_motion.specs.declared.vessel.Vessel.{Vessel}
-use Rattle.relative_motion.specs.declared.vessel.Components.{Components}
-use Rattle.relative_motion.specs.declared.course.Best.{Best}
-use Rattle.relative_motion.specs.declared.course.Best.the-variants as Best
-use Rattle.relative_motion.specs.declared.course.Choice.{Choice}
-use Rattle.relative_motion.specs.Vessel.{unit, velocity}
-use Rattle.relative_motion.specs.declared.check.Verdict.{Verdict}
-use Rattle.relative_motion.specs.declared.check.Verdict.the-variants.{Accepted, Refused}
-use Rattle.relative_motion.specs.declared.units.Distance.{Distance}
-use Rattle.relative_motion.specs.declared.course.CourseAnswer.{CourseAnswer}
-use Rattle.relative_motion.specs.declared.course.CourseAnswer.the-variants as CourseAnswer
+use Rattle.motion.specs.declared.vessel.Contact.{Contact}
+use Rattle.motion.specs.Check.{verdict, encounterChecks, distanceChecks, isDirection, isDistance}
+use Rattle.motion.specs.Check as Check
+use Rattle.motion.specs.declared.vessel.Vessel.{Vessel}
+use Rattle.motion.specs.declared.vessel.Components.{Components}
+use Rattle.course.specs.declared.Best.{Best}
+use Rattle.course.specs.declared.Best.the-variants as Best
+use Rattle.course.specs.declared.Choice.{Choice}
+use Rattle.motion.specs.Vessel.{unit, velocity}
+use Rattle.motion.specs.declared.check.Verdict.{Verdict}
+use Rattle.motion.specs.declared.check.Verdict.the-variants.{Accepted, Refused}
+use Rattle.motion.specs.declared.units.Distance.{Distance}
+use Rattle.course.specs.declared.CourseAnswer.{CourseAnswer}
+use Rattle.course.specs.declared.CourseAnswer.the-variants as CourseAnswer
 use Rattle.elementary.specs.declared.error.Refusal.the-variants as Why
 use Rattle.angle.proofs.Range.{whole-fold-range}
 use Rattle.root.specs.Sqrt.{sqrt}
 use Rattle.root.proofs.SqrtSize.{sqrt-small}
 use Rattle.circular.proofs.Sizes.{sin-small, cos-small}
-use Rattle.relative_motion.specs.Course.{one, clamped, grazing, larger, offered, atSpeed, along, choiceOf, alterationTo, isNothing, avoidanceOf, courseFor, courseBy, courseAnswer}
-use Rattle.relative_motion.specs.Course.{smaller as smaller-of}
+use Rattle.course.specs.Course.{one, clamped, grazing, larger, offered, atSpeed, along, choiceOf, alterationTo, isNothing, avoidanceOf, courseFor, courseBy, courseAnswer}
+use Rattle.course.specs.Course.{smaller as smaller-of}
 use Rattle.motion_laws.specs.Sound.{HeldVessel, HeldContact, AllGood, FiniteAlteration, FiniteCourse}
 use Rattle.motion_laws.proofs.Sizes.{all-good, constant, constant-small, degrees-small, direction-small, distance-small, speed-small, half-turn-small, in-sine-domain, velocity-small}
 use Rattle.motion_laws.proofs.Finite.{clear}

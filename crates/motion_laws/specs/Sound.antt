@@ -12,9 +12,9 @@ use Rattle.time.specs.Clock.{secondsPerHour, clock, nanosIn, fromHours}
 use Rattle.time.specs.declared.TimeAnswer.the-variants as Time
 use Rattle.root.specs.Hypot as Hypot
 use Rattle.circular.specs.Sine as Sine
-use Rattle.relative_motion.specs.declared.vessel.Vessel.{Vessel}
-use Rattle.relative_motion.specs.declared.vessel.Contact.{Contact}
-use Rattle.relative_motion.specs.declared.vessel.Components.{Components}
+use Rattle.motion.specs.declared.vessel.Vessel.{Vessel}
+use Rattle.motion.specs.declared.vessel.Contact.{Contact}
+use Rattle.motion.specs.declared.vessel.Components.{Components}
 use Rattle.relative_motion.specs.declared.approach.Approach.{Approach}
 use Rattle.relative_motion.specs.declared.approach.Approach.the-variants as Approach
 use Rattle.relative_motion.specs.declared.approach.CpaAnswer.{CpaAnswer}
@@ -29,12 +29,12 @@ use Rattle.relative_motion.specs.declared.bow.BowAnswer.the-variants as BowAnsw
 use Rattle.relative_motion.specs.declared.plot.TargetSolution.{TargetSolution}
 use Rattle.relative_motion.specs.declared.plot.PlotAnswer.{PlotAnswer}
 use Rattle.relative_motion.specs.declared.plot.PlotAnswer.the-variants as PlotAnswer
-use Rattle.relative_motion.specs.declared.course.Alteration.{Alteration}
-use Rattle.relative_motion.specs.declared.course.Alteration.the-variants as Alteration
-use Rattle.relative_motion.specs.declared.course.CourseAnswer.{CourseAnswer}
-use Rattle.relative_motion.specs.declared.course.CourseAnswer.the-variants as CourseAnswer
-use Rattle.relative_motion.specs.Check.{zero, Check}
-use Rattle.relative_motion.specs.Vessel.{offset, relativeVelocity}
+use Rattle.course.specs.declared.Alteration.{Alteration}
+use Rattle.course.specs.declared.Alteration.the-variants as Alteration
+use Rattle.course.specs.declared.CourseAnswer.{CourseAnswer}
+use Rattle.course.specs.declared.CourseAnswer.the-variants as CourseAnswer
+use Rattle.motion.specs.Check.{zero, Check}
+use Rattle.motion.specs.Vessel.{offset, relativeVelocity}
 use Rattle.relative_motion.specs.Approach.{stationaryKnots, relativeSpeed, timeOf, closest}
 
 -- the arguments are f64s

@@ -1,7 +1,6 @@
 -- What the code owes of the answers: their cases, and the verdict on the arguments.
 use mathlib.Core.Path.{_≡_, refl, sym, ap, _∙_}
 use mathlib.Core.Bool.{true, false}
-use mathlib.Core.List.{_++_}
 use lib.Ieee.{Float, neg, lt, le}
 use Rattle.laws.specs.Ops.{_⊕_, _⊖_, _⊗_, _⊘_}
 use Rattle.math.specs.Sign.{abs}
@@ -9,25 +8,20 @@ use Rattle.time.specs.Clock.{hoursOf}
 use Rattle.time.specs.declared.Duration.{Duration}
 use Rattle.elementary.specs.declared.error.Refusal.{Refusal}
 use Rattle.elementary.specs.declared.error.Refusal.the-variants as Why
-use Rattle.relative_motion.specs.declared.check.Verdict.{Verdict}
-use Rattle.relative_motion.specs.declared.check.Verdict.the-variants.{Accepted, Refused}
-use Rattle.relative_motion.specs.declared.units.Distance.{Distance}
-use Rattle.relative_motion.specs.declared.vessel.Vessel.{Vessel}
-use Rattle.relative_motion.specs.declared.vessel.Contact.{Contact}
-use Rattle.relative_motion.specs.declared.vessel.Components.{Components}
+use Rattle.motion.specs.declared.check.Verdict.{Verdict}
+use Rattle.motion.specs.declared.check.Verdict.the-variants.{Accepted, Refused}
+use Rattle.motion.specs.declared.vessel.Vessel.{Vessel}
+use Rattle.motion.specs.declared.vessel.Contact.{Contact}
+use Rattle.motion.specs.declared.vessel.Components.{Components}
 use Rattle.relative_motion.specs.declared.bow.BowAnswer.{BowAnswer}
 use Rattle.relative_motion.specs.declared.bow.BowAnswer.the-variants as BowAnswer
 use Rattle.relative_motion.specs.declared.plot.PlotAnswer.{PlotAnswer}
 use Rattle.relative_motion.specs.declared.plot.PlotAnswer.the-variants as PlotAnswer
 use Rattle.relative_motion.specs.declared.plot.TargetSolution.{TargetSolution}
-use Rattle.relative_motion.specs.declared.course.Choice.{Choice}
-use Rattle.relative_motion.specs.declared.course.CourseAnswer.{CourseAnswer}
-use Rattle.relative_motion.specs.declared.course.CourseAnswer.the-variants as CourseAnswer
-use Rattle.relative_motion.specs.Check.{zero, verdict, encounterChecks, distanceChecks}
-use Rattle.relative_motion.specs.Vessel.{unit, offset, relativeVelocity}
+use Rattle.motion.specs.Check.{zero, verdict, encounterChecks}
+use Rattle.motion.specs.Vessel.{unit, offset, relativeVelocity}
 use Rattle.relative_motion.specs.Bow.{parallel, tolerance, notNegative, determinant, crossing, bowBy, bowAnswer}
 use Rattle.relative_motion.specs.Plot.{relativeMotion, solution, solved, plotVerdict, plotBy, plotAnswer}
-use Rattle.relative_motion.specs.Course.{choiceOf, avoidanceOf, courseFor, courseBy, courseAnswer}
 
 -- ---- the crossing
 module _ (range : Float) (position relative ahead : Components) (size : Float) (is : size ≡ abs (relative .north ⊗ neg (ahead .east) ⊖ relative .east ⊗ neg (ahead .north))) where
@@ -68,19 +62,6 @@ module _ (own : Vessel) (contact : Contact) (target : Vessel) (v : Verdict) (is 
   unfolding bowAnswer
   crossing-refused why h = ap (λ w. bowBy w (crossing (contact .range .0) (offset contact) (relativeVelocity own target) (unit (own .course .0)))) (sym h ∙ is)
 
-module _ (own : Vessel) (contact : Contact) (target : Vessel) (desired : Distance) (w v : Verdict) (ew : w ≡ verdict (distanceChecks desired) Accepted) (ev : v ≡ verdict (encounterChecks own contact target) w) where
-  checked : v ≡ verdict (encounterChecks own contact target ++ distanceChecks desired) Accepted
-  unfolding verdict encounterChecks
-  checked = ev ∙ ap (verdict (encounterChecks own contact target)) ew
-
-  pub coursed : (a : CourseAnswer) → v ≡ Accepted → a ≡ courseFor own contact target (desired .0) → a ≡ courseAnswer own contact target desired
-  unfolding courseAnswer
-  coursed a h e = e ∙ ap (λ w. courseBy w (courseFor own contact target (desired .0))) (sym h ∙ checked)
-
-  pub course-refused : (why : Refusal) → v ≡ Refused why → CourseAnswer.Refused why ≡ courseAnswer own contact target desired
-  unfolding courseAnswer
-  course-refused why h = ap (λ w. courseBy w (courseFor own contact target (desired .0))) (sym h ∙ checked)
-
 module _ (own : Vessel) (first second : Contact) (elapsed : Duration) (v : Verdict) (is : v ≡ plotVerdict own first second elapsed) where
   pub plotted : (t : Float) (a : PlotAnswer) → v ≡ Accepted → t ≡ hoursOf elapsed → a ≡ solved own first second t → a ≡ plotAnswer own first second elapsed
   unfolding plotAnswer
@@ -91,19 +72,6 @@ module _ (own : Vessel) (first second : Contact) (elapsed : Duration) (v : Verdi
   plot-refused why h = ap (λ w. plotBy w (solved own first second (hoursOf elapsed))) (sym h ∙ is)
 
 -- ---- with accepted arguments
-module _ (own : Vessel) (contact : Contact) (target : Vessel) (wanted : Float) where
-  pub inside-desired : le (contact .range .0) wanted ≡ true → CourseAnswer.Refused Why.InsideDesired ≡ courseFor own contact target wanted
-  unfolding courseFor
-  inside-desired h = rw h refl
-
-  pub no-own-speed : le (contact .range .0) wanted ≡ false → le (own .speed .0) zero ≡ true → CourseAnswer.Refused Why.NoOwnSpeed ≡ courseFor own contact target wanted
-  unfolding courseFor
-  no-own-speed h k = rw (h, k) refl
-
-  pub outside-desired : (c : Choice) (a : CourseAnswer) → le (contact .range .0) wanted ≡ false → le (own .speed .0) zero ≡ false → c ≡ choiceOf own contact target wanted → a ≡ avoidanceOf c → a ≡ courseFor own contact target wanted
-  unfolding courseFor
-  outside-desired c a h k ec e = rw (h, k) (e ∙ ap avoidanceOf ec)
-
 module _ (own : Vessel) (first second : Contact) (interval : Float) where
   pub no-interval : le interval zero ≡ true → PlotAnswer.Refused Why.Time ≡ solved own first second interval
   unfolding solved

@@ -8,22 +8,22 @@ use Rattle.root.specs.Hypot.{hypot}
 use Rattle.time.specs.declared.Duration.{Duration}
 use Rattle.angle.specs.Fold.{wholeFold}
 use Rattle.elementary.specs.declared.error.Refusal.{Refusal}
-use Rattle.relative_motion.specs.declared.check.Verdict.{Verdict}
-use Rattle.relative_motion.specs.declared.check.Verdict.the-variants.{Accepted, Refused}
-use Rattle.relative_motion.specs.declared.vessel.Vessel.{Vessel}
-use Rattle.relative_motion.specs.declared.vessel.Contact.{Contact}
+use Rattle.motion.specs.declared.check.Verdict.{Verdict}
+use Rattle.motion.specs.declared.check.Verdict.the-variants.{Accepted, Refused}
+use Rattle.motion.specs.declared.vessel.Vessel.{Vessel}
+use Rattle.motion.specs.declared.vessel.Contact.{Contact}
 use Rattle.relative_motion.specs.declared.approach.Approach.{Approach}
 use Rattle.relative_motion.specs.declared.approach.Pass.{Pass}
 use Rattle.relative_motion.specs.declared.approach.CpaAnswer.the-variants as CpaAnswer
 use Rattle.relative_motion.specs.declared.approach.PassAnswer.the-variants as PassAnswer
 use Rattle.relative_motion.specs.declared.approach.BearingAnswer.the-variants as BearingAnswer
-use Rattle.relative_motion.specs.declared.units.Direction.{Direction}
-use Rattle.relative_motion.specs.declared.units.Distance.{Distance}
-use Rattle.relative_motion.specs.declared.vessel.Components.{Components}
+use Rattle.motion.specs.declared.units.Direction.{Direction}
+use Rattle.motion.specs.declared.units.Distance.{Distance}
+use Rattle.motion.specs.declared.vessel.Components.{Components}
 use Rattle.relative_motion.specs.declared.approach.Approach.the-variants.{Closing, Opening, Stationary}
 use Rattle.relative_motion.specs.declared.approach.Pass.the-variants as Pass
-use Rattle.relative_motion.specs.Check.{zero, verdict, vesselChecks, contactChecks, encounterChecks}
-use Rattle.relative_motion.specs.Vessel.{directionOf, offset, relativeVelocity}
+use Rattle.motion.specs.Check.{zero, verdict, vesselChecks, contactChecks, encounterChecks}
+use Rattle.motion.specs.Vessel.{directionOf, offset, relativeVelocity}
 use Rattle.relative_motion.specs.Approach.{stationaryKnots, timeToGo, relativeSpeed, closingRate, timeOf, closest, approachFrom, approach, cpaBy, cpaAnswer, passingIn, passingOfAnswer, passingAnswer, bearingBy, bearingAnswer}
 
 module _ (range : Distance) (position relative : Components) (speed : Float) (is : speed ≡ hypot (relative .north) (relative .east)) where

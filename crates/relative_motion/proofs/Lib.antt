@@ -1,4 +1,3 @@
 -- Laws on relative motion.
 pub mod Answers
 pub mod Approaches
-pub mod Courses

@@ -11,12 +11,12 @@ use Rattle.time.specs.declared.TimeAnswer.{TimeAnswer}
 use Rattle.time.specs.declared.TimeAnswer.the-variants as Time
 use Rattle.root.specs.Hypot.{hypot}
 use Rattle.elementary.specs.Refusal.{numberOf}
-use Rattle.relative_motion.specs.declared.check.Verdict.{Verdict}
-use Rattle.relative_motion.specs.declared.check.Verdict.the-variants as Verdict
-use Rattle.relative_motion.specs.declared.units.Distance.{Distance}
-use Rattle.relative_motion.specs.declared.vessel.Vessel.{Vessel}
-use Rattle.relative_motion.specs.declared.vessel.Contact.{Contact}
-use Rattle.relative_motion.specs.declared.vessel.Components.{Components}
+use Rattle.motion.specs.declared.check.Verdict.{Verdict}
+use Rattle.motion.specs.declared.check.Verdict.the-variants as Verdict
+use Rattle.motion.specs.declared.units.Distance.{Distance}
+use Rattle.motion.specs.declared.vessel.Vessel.{Vessel}
+use Rattle.motion.specs.declared.vessel.Contact.{Contact}
+use Rattle.motion.specs.declared.vessel.Components.{Components}
 use Rattle.relative_motion.specs.declared.approach.Approach.{Approach}
 use Rattle.relative_motion.specs.declared.approach.Approach.the-variants as Approach
 use Rattle.relative_motion.specs.declared.approach.Pass.{Pass}
@@ -27,8 +27,8 @@ use Rattle.relative_motion.specs.declared.approach.PassAnswer.{PassAnswe
 use Rattle.relative_motion.specs.declared.approach.PassAnswer.the-variants as PassAnswer
 use Rattle.relative_motion.specs.declared.approach.BearingAnswer.{BearingAnswer}
 use Rattle.relative_motion.specs.declared.approach.BearingAnswer.the-variants as BearingAnswer
-use Rattle.relative_motion.specs.Check.{zero, verdict, vesselChecks, contactChecks, encounterChecks}
-use Rattle.relative_motion.specs.Vessel.{directionOf, offset, relativeVelocity}
+use Rattle.motion.specs.Check.{zero, verdict, vesselChecks, contactChecks, encounterChecks}
+use Rattle.motion.specs.Vessel.{directionOf, offset, relativeVelocity}
 
 -- 1e-9
 abbrev pub stationaryKnots : Float

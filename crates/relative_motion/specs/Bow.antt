@@ -6,15 +6,15 @@ use Rattle.laws.specs.Ops.{_⊕_, _⊖_, _⊗_, _⊘_}
 use Rattle.math.specs.Sign.{abs}
 use Rattle.elementary.specs.Refusal.{numberOf}
 use Rattle.elementary.specs.declared.error.Refusal.the-variants as Why
-use Rattle.relative_motion.specs.declared.check.Verdict.{Verdict}
-use Rattle.relative_motion.specs.declared.check.Verdict.the-variants as Verdict
-use Rattle.relative_motion.specs.declared.vessel.Vessel.{Vessel}
-use Rattle.relative_motion.specs.declared.vessel.Contact.{Contact}
-use Rattle.relative_motion.specs.declared.vessel.Components.{Components}
+use Rattle.motion.specs.declared.check.Verdict.{Verdict}
+use Rattle.motion.specs.declared.check.Verdict.the-variants as Verdict
+use Rattle.motion.specs.declared.vessel.Vessel.{Vessel}
+use Rattle.motion.specs.declared.vessel.Contact.{Contact}
+use Rattle.motion.specs.declared.vessel.Components.{Components}
 use Rattle.relative_motion.specs.declared.bow.BowAnswer.{BowAnswer}
 use Rattle.relative_motion.specs.declared.bow.BowAnswer.the-variants as BowAnswer
-use Rattle.relative_motion.specs.Check.{zero, verdict, encounterChecks}
-use Rattle.relative_motion.specs.Vessel.{unit, offset, relativeVelocity}
+use Rattle.motion.specs.Check.{zero, verdict, encounterChecks}
+use Rattle.motion.specs.Vessel.{unit, offset, relativeVelocity}
 
 -- 1e-12 and 1e-9
 abbrev pub parallel : Float

@@ -10,16 +10,16 @@ use Rattle.time.specs.declared.Duration.{Duration}
 use Rattle.root.specs.Hypot.{hypot}
 use Rattle.elementary.specs.Refusal.{numberOf}
 use Rattle.elementary.specs.declared.error.Refusal.the-variants as Why
-use Rattle.relative_motion.specs.declared.check.Verdict.{Verdict}
-use Rattle.relative_motion.specs.declared.check.Verdict.the-variants as Verdict
-use Rattle.relative_motion.specs.declared.vessel.Vessel.{Vessel}
-use Rattle.relative_motion.specs.declared.vessel.Contact.{Contact}
-use Rattle.relative_motion.specs.declared.vessel.Components.{Components}
+use Rattle.motion.specs.declared.check.Verdict.{Verdict}
+use Rattle.motion.specs.declared.check.Verdict.the-variants as Verdict
+use Rattle.motion.specs.declared.vessel.Vessel.{Vessel}
+use Rattle.motion.specs.declared.vessel.Contact.{Contact}
+use Rattle.motion.specs.declared.vessel.Components.{Components}
 use Rattle.relative_motion.specs.declared.plot.TargetSolution.{TargetSolution}
 use Rattle.relative_motion.specs.declared.plot.PlotAnswer.{PlotAnswer}
 use Rattle.relative_motion.specs.declared.plot.PlotAnswer.the-variants as PlotAnswer
-use Rattle.relative_motion.specs.Check.{zero, Check, check, verdict, vesselChecks, contactChecks}
-use Rattle.relative_motion.specs.Vessel.{directionOf, velocity, fromVelocity, offset, difference}
+use Rattle.motion.specs.Check.{zero, Check, check, verdict, vesselChecks, contactChecks}
+use Rattle.motion.specs.Vessel.{directionOf, velocity, fromVelocity, offset, difference}
 
 unfoldable pub relativeMotion : Contact → Contact → Float → Components
 relativeMotion first second interval = let moved = difference (offset second) (offset first) in record { north = moved .north ⊘ interval; east = moved .east ⊘ interval }

@@ -1,16 +1,16 @@
 // The closest point of approach.
 ghost use mathlib.Core.Path.{_≡_};
 ghost use Rattle.relative_motion.specs.Approach as Spec;
-use crate::check;
-use crate::check::Verdict;
-use crate::units::Direction;
-use crate::units::Distance;
-use crate::units::RelativeBearing;
-use crate::vessel;
-use crate::vessel::Components;
-use crate::vessel::Contact;
-use crate::vessel::Vessel;
 use elementary::error::Refusal;
+use motion::check;
+use motion::check::Verdict;
+use motion::units::Direction;
+use motion::units::Distance;
+use motion::units::RelativeBearing;
+use motion::vessel;
+use motion::vessel::Components;
+use motion::vessel::Contact;
+use motion::vessel::Vessel;
 use time::Duration;
 use time::TimeAnswer;
 

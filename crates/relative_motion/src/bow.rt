@@ -1,14 +1,14 @@
 // The range ahead at which a contact crosses own track.
 ghost use mathlib.Core.Path.{_≡_};
 ghost use Rattle.relative_motion.specs.Bow as Spec;
-use crate::check;
-use crate::check::Verdict;
-use crate::units::Distance;
-use crate::vessel;
-use crate::vessel::Components;
-use crate::vessel::Contact;
-use crate::vessel::Vessel;
 use elementary::error::Refusal;
+use motion::check;
+use motion::check::Verdict;
+use motion::units::Distance;
+use motion::vessel;
+use motion::vessel::Components;
+use motion::vessel::Contact;
+use motion::vessel::Vessel;
 
 // Below this a determinant says that the contact moves along own track.
 const PARALLEL: f64 = 1e-12;

@@ -5,8 +5,4 @@
 // operation.
 pub mod approach;
 pub mod bow;
-pub mod check;
-pub mod course;
 pub mod plot;
-pub mod units;
-pub mod vessel;

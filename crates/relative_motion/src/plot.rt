@@ -1,16 +1,16 @@
 // A target's course and speed from two plots.
 ghost use mathlib.Core.Path.{_≡_};
 ghost use Rattle.relative_motion.specs.Plot as Spec;
-use crate::check;
-use crate::check::Verdict;
-use crate::units::Angle;
-use crate::units::Direction;
-use crate::units::Speed;
-use crate::vessel;
-use crate::vessel::Components;
-use crate::vessel::Contact;
-use crate::vessel::Vessel;
 use elementary::error::Refusal;
+use motion::check;
+use motion::check::Verdict;
+use motion::units::Angle;
+use motion::units::Direction;
+use motion::units::Speed;
+use motion::vessel;
+use motion::vessel::Components;
+use motion::vessel::Contact;
+use motion::vessel::Vessel;
 use time::Duration;
 
 // What two plots tell of a target. The aspect is own craft's bearing off the target's bow, negative on its port side.

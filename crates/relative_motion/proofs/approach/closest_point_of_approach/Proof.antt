@@ -1,5 +1,5 @@
 use Rattle.relative_motion.specs.Approach.{approachFrom}
-use Rattle.relative_motion.specs.Vessel.{offset}
+use Rattle.motion.specs.Vessel.{offset}
 use mathlib.Core.Path.{ap, _∙_}
 use Rattle.relative_motion.proofs.Approaches.{answered, refused}
 use borrow.Author.Needs.{needs}

@@ -1,4 +1,4 @@
-use Rattle.relative_motion.specs.Vessel.{offset}
+use Rattle.motion.specs.Vessel.{offset}
 use Rattle.relative_motion.specs.Approach.{approachFrom, passingIn}
 use mathlib.Core.Path.{ap, _∙_}
 use Rattle.relative_motion.proofs.Approaches.{passed, pass-refused}

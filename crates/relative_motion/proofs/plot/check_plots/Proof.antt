@@ -1,5 +1,5 @@
 use Rattle.relative_motion.specs.Plot.{plotVerdict, plotChecks}
-use Rattle.relative_motion.specs.Check.{verdict}
+use Rattle.motion.specs.Check.{verdict}
 use borrow.Author.Needs.{needs}
 use Rattle.relative_motion.proofs.plot.check_plots.Statement.{statement}
 use Rattle.relative_motion.proofs.plot.check_plots.Tie as tie

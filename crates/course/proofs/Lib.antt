@@ -1,0 +1,2 @@
+-- What the code of `course_for_cpa` owes.
+pub mod Courses

@@ -1,0 +1,2 @@
+-- The courses that bring a contact to a wanted distance.
+pub mod Course
