@@ -10,8 +10,8 @@ use Rattle.root.specs.Sqrt.{sqrt}
 use Rattle.inverse.specs.Atan2.{atan2}
 use Rattle.elementary.specs.declared.error.Refusal.{Refusal}
 use Rattle.elementary.specs.declared.error.Refusal.the-variants as Why
-use Rattle.motion.specs.declared.check.Verdict.{Verdict}
-use Rattle.motion.specs.declared.check.Verdict.the-variants.{Accepted, Refused}
+use Rattle.arguments.specs.declared.Verdict.{Verdict}
+use Rattle.arguments.specs.declared.Verdict.the-variants.{Accepted, Refused}
 use Rattle.motion.specs.declared.units.Distance.{Distance}
 use Rattle.motion.specs.declared.vessel.Vessel.{Vessel}
 use Rattle.motion.specs.declared.vessel.Contact.{Contact}
@@ -22,7 +22,7 @@ use Rattle.course.specs.declared.Best.the-variants.{Nothing, By}
 use Rattle.course.specs.declared.Choice.{Choice}
 use Rattle.course.specs.declared.CourseAnswer.{CourseAnswer}
 use Rattle.course.specs.declared.CourseAnswer.the-variants as CourseAnswer
-use Rattle.motion.specs.Check.{zero, verdict, encounterChecks, distanceChecks}
+use Rattle.arguments.specs.Check.{zero, verdict, encounterChecks, distanceChecks}
 use Rattle.motion.specs.Vessel.{unit}
 use Rattle.course.specs.Course.{one, clamped, smaller, larger, offered, atSpeed, along, alterationTo, isNothing, choiceOf, avoidanceOf, courseFor, courseBy, courseAnswer}
 

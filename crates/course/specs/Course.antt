@@ -11,8 +11,8 @@ use Rattle.inverse.specs.Asin.{asin}
 use Rattle.inverse.specs.Atan2.{atan2}
 use Rattle.elementary.specs.Refusal.{numberOf}
 use Rattle.elementary.specs.declared.error.Refusal.the-variants as Why
-use Rattle.motion.specs.declared.check.Verdict.{Verdict}
-use Rattle.motion.specs.declared.check.Verdict.the-variants as Verdict
+use Rattle.arguments.specs.declared.Verdict.{Verdict}
+use Rattle.arguments.specs.declared.Verdict.the-variants as Verdict
 use Rattle.motion.specs.declared.units.Distance.{Distance}
 use Rattle.motion.specs.declared.vessel.Vessel.{Vessel}
 use Rattle.motion.specs.declared.vessel.Contact.{Contact}
@@ -24,7 +24,7 @@ use Rattle.course.specs.declared.Best.the-variants as Best
 use Rattle.course.specs.declared.Choice.{Choice}
 use Rattle.course.specs.declared.CourseAnswer.{CourseAnswer}
 use Rattle.course.specs.declared.CourseAnswer.the-variants as CourseAnswer
-use Rattle.motion.specs.Check.{zero, verdict, encounterChecks, distanceChecks}
+use Rattle.arguments.specs.Check.{zero, verdict, encounterChecks, distanceChecks}
 use Rattle.motion.specs.Vessel.{unit, velocity}
 
 -- 1

@@ -1,9 +1,8 @@
 // The courses, at own speed, that bring a contact to a wanted distance at its closest.
 ghost use mathlib.Core.Path.{_≡_};
 ghost use Rattle.course.specs.Course as Spec;
+use arguments::Verdict;
 use elementary::error::Refusal;
-use motion::check;
-use motion::check::Verdict;
 use motion::units::Direction;
 use motion::units::Distance;
 use motion::vessel;
@@ -228,11 +227,11 @@ pub fn course_for_cpa(
 ) -> CourseAnswer
     ensures { λ r. ⌜ r ≡ Spec.courseAnswer own contact target desired ⌝ }
 {
-    let verdict = check::check_encounter(
+    let verdict = arguments::check_encounter(
         own,
         contact,
         target,
-        check::check_distance(desired, Verdict::Accepted),
+        arguments::check_distance(desired, Verdict::Accepted),
     );
     match verdict {
         Verdict::Accepted => course_for(own, contact, target, desired.0),

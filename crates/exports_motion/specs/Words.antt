@@ -22,9 +22,9 @@ use Rattle.relative_motion.specs.declared.approach.BearingAnswer.{BearingAnswer
 use Rattle.relative_motion.specs.declared.approach.BearingAnswer.the-variants as BearingAnswer
 use Rattle.relative_motion.specs.declared.bow.BowAnswer.{BowAnswer}
 use Rattle.relative_motion.specs.declared.bow.BowAnswer.the-variants as BowAnswer
-use Rattle.relative_motion.specs.declared.plot.TargetSolution.{TargetSolution}
-use Rattle.relative_motion.specs.declared.plot.PlotAnswer.{PlotAnswer}
-use Rattle.relative_motion.specs.declared.plot.PlotAnswer.the-variants as PlotAnswer
+use Rattle.plot.specs.declared.TargetSolution.{TargetSolution}
+use Rattle.plot.specs.declared.PlotAnswer.{PlotAnswer}
+use Rattle.plot.specs.declared.PlotAnswer.the-variants as PlotAnswer
 use Rattle.course.specs.declared.Alteration.{Alteration}
 use Rattle.course.specs.declared.Alteration.the-variants as Alteration
 use Rattle.course.specs.declared.Avoidance.{Avoidance}

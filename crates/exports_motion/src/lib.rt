@@ -4,7 +4,7 @@ ghost use mathlib.Core.Path.{_≡_};
 ghost use Rattle.relative_motion.specs.Approach as Motion;
 ghost use Rattle.relative_motion.specs.Bow as Bow;
 ghost use Rattle.course.specs.Course as Course;
-ghost use Rattle.relative_motion.specs.Plot as Plot;
+ghost use Rattle.plot.specs.Plot as Plot;
 ghost use Rattle.exports_motion.specs.Words as Spec;
 use course::Alteration;
 use course::Avoidance;
@@ -15,6 +15,8 @@ use motion::units::Distance;
 use motion::units::Speed;
 use motion::vessel::Contact;
 use motion::vessel::Vessel;
+use plot::PlotAnswer;
+use plot::TargetSolution;
 use relative_motion::approach::Approach;
 use relative_motion::approach::BearingAnswer;
 use relative_motion::approach::Cpa;
@@ -22,8 +24,6 @@ use relative_motion::approach::CpaAnswer;
 use relative_motion::approach::Pass;
 use relative_motion::approach::PassAnswer;
 use relative_motion::bow::BowAnswer;
-use relative_motion::plot::PlotAnswer;
-use relative_motion::plot::TargetSolution;
 use time::Duration;
 
 // The number of a refusal, and up to five values.
@@ -384,7 +384,7 @@ pub extern "C" fn motion_plot(
         nanos: nanos,
     };
     word(
-        plot_words(relative_motion::plot::target_from_plot(
+        plot_words(plot::target_from_plot(
             vessel(oc, os),
             contact(b1, r1),
             contact(b2, r2),

@@ -1,3 +1,2 @@
--- Vessels and contacts, and the checks of arguments.
-pub mod Check
+-- Vessels and contacts.
 pub mod Vessel

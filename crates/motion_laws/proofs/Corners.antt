@@ -33,11 +33,11 @@ use Rattle.relative_motion.specs.declared.approach.CpaAnswer.the-variants as Cp
 use Rattle.course.specs.declared.Best.{Best}
 use Rattle.course.specs.declared.Best.the-variants as Best
 use Rattle.course.specs.declared.Choice.{Choice}
-use Rattle.motion.specs.Check.{verdict, isDirection, isSpeed, isDistance, encounterChecks}
+use Rattle.arguments.specs.Check.{verdict, isDirection, isSpeed, isDistance, encounterChecks}
 use Rattle.motion.specs.Vessel.{unit, resolved, directionOf, velocity, offset, difference, relativeVelocity}
 use Rattle.relative_motion.specs.Approach.{timeToGo, relativeSpeed, closingRate, timeOf, closest, approachFrom, approach, cpaAnswer, cpaNumber, approachKind}
 use Rattle.relative_motion.specs.Bow.{notNegative, determinant, crossing, bowAnswer, bowNumber}
-use Rattle.relative_motion.specs.Plot.{relativeMotion, targetOf, solution, solved, plotChecks, plotVerdict, plotAnswer, plotNumber}
+use Rattle.plot.specs.Plot.{relativeMotion, targetOf, solution, solved, plotChecks, plotVerdict, plotAnswer, plotNumber}
 use Rattle.course.specs.Course.{clamped, grazing, offered, atSpeed, along, choiceOf, avoidanceOf, courseFor, courseAnswer, courseNumber}
 
 -- a computed figure and what it must be

@@ -38,17 +38,17 @@ use Rattle.relative_motion.specs.declared.bow.BowAnswer.the-variants as BowAnsw
 use Rattle.relative_motion.specs.Bow.{parallel, tolerance, notNegative, determinant, crossing, bowBy, bowAnswer}
 use Rattle.inverse.specs.Atan2.{atan2}
 use Rattle.inverse.proofs.Sizes.{atan2-small}
-use Rattle.motion.specs.declared.check.Verdict.{Verdict}
-use Rattle.motion.specs.declared.check.Verdict.the-variants as Verdict
+use Rattle.arguments.specs.declared.Verdict.{Verdict}
+use Rattle.arguments.specs.declared.Verdict.the-variants as Verdict
 use Rattle.motion.specs.declared.units.Distance.{Distance}
 use Rattle.motion.specs.declared.vessel.Vessel.{Vessel}
 use Rattle.motion.specs.declared.vessel.Contact.{Contact}
 use Rattle.motion.specs.declared.vessel.Components.{Components}
 use Rattle.relative_motion.specs.declared.approach.Approach.the-variants.{Closing, Opening, Stationary}
-use Rattle.motion.specs.Check.{verdict, vesselChecks, contactChecks, encounterChecks}
+use Rattle.arguments.specs.Check.{verdict, vesselChecks, contactChecks, encounterChecks}
 use Rattle.motion.specs.Vessel.{unit, directionOf, offset, relativeVelocity}
 use Rattle.motion_laws.specs.Sound.{HeldVessel, HeldContact, AllGood, FiniteApproach, FiniteCpa, FinitePass, FiniteBearing, FiniteBow, Way, CpaWay}
-use Rattle.motion.specs.Check as Check
+use Rattle.arguments.specs.Check as Check
 use Rattle.relative_motion.specs.Approach.{stationaryKnots, timeToGo, relativeSpeed, closingRate, timeOf, closest, approachFrom, approach, cpaBy, cpaAnswer, passingOfAnswer, passingAnswer, bearingBy, bearingAnswer}
 use Rattle.motion_laws.proofs.Sizes.{Sized, all-good, direction-small, distance-small, degrees-small, direction-domain, unit-small, sized}
 

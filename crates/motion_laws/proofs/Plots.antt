@@ -28,16 +28,16 @@ use Rattle.root.proofs.HypotSize.{hypot-small}
 use Rattle.inverse.specs.Atan2.{atan2}
 use Rattle.inverse.proofs.Sizes.{atan2-small}
 use Rattle.elementary.specs.declared.error.Refusal.the-variants as Why
-use Rattle.motion.specs.declared.check.Verdict.{Verdict}
-use Rattle.motion.specs.declared.check.Verdict.the-variants.{Accepted, Refused}
+use Rattle.arguments.specs.declared.Verdict.{Verdict}
+use Rattle.arguments.specs.declared.Verdict.the-variants.{Accepted, Refused}
 use Rattle.motion.specs.declared.vessel.Vessel.{Vessel}
 use Rattle.motion.specs.declared.vessel.Contact.{Contact}
 use Rattle.motion.specs.declared.vessel.Components.{Components}
-use Rattle.relative_motion.specs.declared.plot.PlotAnswer.the-variants as PlotAnswer
-use Rattle.motion.specs.Check.{verdict, vesselChecks, contactChecks, isDirection, isSpeed, isDistance}
-use Rattle.motion.specs.Check as Check
+use Rattle.plot.specs.declared.PlotAnswer.the-variants as PlotAnswer
+use Rattle.arguments.specs.Check.{verdict, vesselChecks, contactChecks, isDirection, isSpeed, isDistance}
+use Rattle.arguments.specs.Check as Check
 use Rattle.motion.specs.Vessel.{directionOf, velocity, fromVelocity, offset, difference}
-use Rattle.relative_motion.specs.Plot.{relativeMotion, targetOf, solution, solved, plotChecks, plotVerdict, plotBy, plotAnswer}
+use Rattle.plot.specs.Plot.{relativeMotion, targetOf, solution, solved, plotChecks, plotVerdict, plotBy, plotAnswer}
 use Rattle.motion_laws.specs.Sound.{HeldVessel, HeldContact, AllGood, FiniteSolution, FinitePlot}
 use Rattle.motion_laws.proofs.Sizes.{all-good, direction-small, distance-small, degrees-small, half-turn-small, resolved-small, velocity-small}
 use Rattle.motion_laws.proofs.Finite.{direction-finite}

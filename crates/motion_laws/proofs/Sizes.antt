@@ -23,15 +23,15 @@ use Rattle.angle.specs.Fold.{halfTurn}
 use Rattle.circular.specs.Sine as Sine
 use Rattle.circular.proofs.Sizes.{sin-small, cos-small}
 use Rattle.elementary.specs.Range.{inRange}
-use Rattle.motion.specs.declared.check.Verdict.{Verdict}
-use Rattle.motion.specs.declared.check.Verdict.the-variants.{Accepted, Refused}
+use Rattle.arguments.specs.declared.Verdict.{Verdict}
+use Rattle.arguments.specs.declared.Verdict.the-variants.{Accepted, Refused}
 use Rattle.motion.specs.declared.units.Direction.{Direction}
 use Rattle.motion.specs.declared.units.Speed.{Speed}
 use Rattle.motion.specs.declared.units.Distance.{Distance}
 use Rattle.motion.specs.declared.vessel.Vessel.{Vessel}
 use Rattle.motion.specs.declared.vessel.Contact.{Contact}
 use Rattle.motion.specs.declared.vessel.Components.{Components}
-use Rattle.motion.specs.Check.{zero, fullTurn, fastest, farthest, Check, verdict, isDirection, isSpeed, isDistance}
+use Rattle.arguments.specs.Check.{zero, fullTurn, fastest, farthest, Check, verdict, isDirection, isSpeed, isDistance}
 use Rattle.motion.specs.Vessel.{unit, resolved, velocity, offset, difference, relativeVelocity}
 use Rattle.motion_laws.specs.Sound.{HeldVessel, HeldContact, AllGood}
 

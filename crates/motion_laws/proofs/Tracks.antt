@@ -29,16 +29,16 @@ use Rattle.inverse.proofs.Arctangents.{not-nan}
 use Rattle.inverse.proofs.Sizes.{asin-small, atan2-small}
 use Rattle.elementary.specs.Range.{inRange}
 use Rattle.motion.specs.declared.vessel.Contact.{Contact}
-use Rattle.motion.specs.Check.{verdict, encounterChecks, distanceChecks, isDirection, isDistance}
-use Rattle.motion.specs.Check as Check
+use Rattle.arguments.specs.Check.{verdict, encounterChecks, distanceChecks, isDirection, isDistance}
+use Rattle.arguments.specs.Check as Check
 use Rattle.motion.specs.declared.vessel.Vessel.{Vessel}
 use Rattle.motion.specs.declared.vessel.Components.{Components}
 use Rattle.course.specs.declared.Best.{Best}
 use Rattle.course.specs.declared.Best.the-variants as Best
 use Rattle.course.specs.declared.Choice.{Choice}
 use Rattle.motion.specs.Vessel.{unit, velocity}
-use Rattle.motion.specs.declared.check.Verdict.{Verdict}
-use Rattle.motion.specs.declared.check.Verdict.the-variants.{Accepted, Refused}
+use Rattle.arguments.specs.declared.Verdict.{Verdict}
+use Rattle.arguments.specs.declared.Verdict.the-variants.{Accepted, Refused}
 use Rattle.motion.specs.declared.units.Distance.{Distance}
 use Rattle.course.specs.declared.CourseAnswer.{CourseAnswer}
 use Rattle.course.specs.declared.CourseAnswer.the-variants as CourseAnswer

@@ -8,8 +8,8 @@ use Rattle.root.specs.Hypot.{hypot}
 use Rattle.time.specs.declared.Duration.{Duration}
 use Rattle.angle.specs.Fold.{wholeFold}
 use Rattle.elementary.specs.declared.error.Refusal.{Refusal}
-use Rattle.motion.specs.declared.check.Verdict.{Verdict}
-use Rattle.motion.specs.declared.check.Verdict.the-variants.{Accepted, Refused}
+use Rattle.arguments.specs.declared.Verdict.{Verdict}
+use Rattle.arguments.specs.declared.Verdict.the-variants.{Accepted, Refused}
 use Rattle.motion.specs.declared.vessel.Vessel.{Vessel}
 use Rattle.motion.specs.declared.vessel.Contact.{Contact}
 use Rattle.relative_motion.specs.declared.approach.Approach.{Approach}
@@ -22,7 +22,7 @@ use Rattle.motion.specs.declared.units.Distance.{Distance}
 use Rattle.motion.specs.declared.vessel.Components.{Components}
 use Rattle.relative_motion.specs.declared.approach.Approach.the-variants.{Closing, Opening, Stationary}
 use Rattle.relative_motion.specs.declared.approach.Pass.the-variants as Pass
-use Rattle.motion.specs.Check.{zero, verdict, vesselChecks, contactChecks, encounterChecks}
+use Rattle.arguments.specs.Check.{zero, verdict, vesselChecks, contactChecks, encounterChecks}
 use Rattle.motion.specs.Vessel.{directionOf, offset, relativeVelocity}
 use Rattle.relative_motion.specs.Approach.{stationaryKnots, timeToGo, relativeSpeed, closingRate, timeOf, closest, approachFrom, approach, cpaBy, cpaAnswer, passingIn, passingOfAnswer, passingAnswer, bearingBy, bearingAnswer}
 

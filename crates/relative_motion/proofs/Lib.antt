@@ -1,3 +1,3 @@
--- Laws on relative motion.
-pub mod Answers
+-- What the code of relative motion owes.
 pub mod Approaches
+pub mod Crossings

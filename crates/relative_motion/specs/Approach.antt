@@ -11,8 +11,8 @@ use Rattle.time.specs.declared.TimeAnswer.{TimeAnswer}
 use Rattle.time.specs.declared.TimeAnswer.the-variants as Time
 use Rattle.root.specs.Hypot.{hypot}
 use Rattle.elementary.specs.Refusal.{numberOf}
-use Rattle.motion.specs.declared.check.Verdict.{Verdict}
-use Rattle.motion.specs.declared.check.Verdict.the-variants as Verdict
+use Rattle.arguments.specs.declared.Verdict.{Verdict}
+use Rattle.arguments.specs.declared.Verdict.the-variants as Verdict
 use Rattle.motion.specs.declared.units.Distance.{Distance}
 use Rattle.motion.specs.declared.vessel.Vessel.{Vessel}
 use Rattle.motion.specs.declared.vessel.Contact.{Contact}
@@ -27,7 +27,7 @@ use Rattle.relative_motion.specs.declared.approach.PassAnswer.{PassAnswe
 use Rattle.relative_motion.specs.declared.approach.PassAnswer.the-variants as PassAnswer
 use Rattle.relative_motion.specs.declared.approach.BearingAnswer.{BearingAnswer}
 use Rattle.relative_motion.specs.declared.approach.BearingAnswer.the-variants as BearingAnswer
-use Rattle.motion.specs.Check.{zero, verdict, vesselChecks, contactChecks, encounterChecks}
+use Rattle.arguments.specs.Check.{zero, verdict, vesselChecks, contactChecks, encounterChecks}
 use Rattle.motion.specs.Vessel.{directionOf, offset, relativeVelocity}
 
 -- 1e-9

@@ -1,4 +1,3 @@
 -- Relative motion.
 pub mod Approach
 pub mod Bow
-pub mod Plot

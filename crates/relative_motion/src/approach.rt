@@ -1,9 +1,8 @@
 // The closest point of approach.
 ghost use mathlib.Core.Path.{_≡_};
 ghost use Rattle.relative_motion.specs.Approach as Spec;
+use arguments::Verdict;
 use elementary::error::Refusal;
-use motion::check;
-use motion::check::Verdict;
 use motion::units::Direction;
 use motion::units::Distance;
 use motion::units::RelativeBearing;
@@ -121,7 +120,7 @@ pub fn passing_from(range: Distance, offset: Components, relative: Components) -
 pub fn closest_point_of_approach(own: Vessel, contact: Contact, target: Vessel) -> CpaAnswer
     ensures { λ r. ⌜ r ≡ Spec.cpaAnswer own contact target ⌝ }
 {
-    let verdict = check::check_encounter(own, contact, target, Verdict::Accepted);
+    let verdict = arguments::check_encounter(own, contact, target, Verdict::Accepted);
     match verdict {
         Verdict::Accepted => CpaAnswer::Of(approach_from(
             contact.range,
@@ -136,7 +135,7 @@ pub fn closest_point_of_approach(own: Vessel, contact: Contact, target: Vessel) 
 pub fn passing(own: Vessel, contact: Contact, target: Vessel) -> PassAnswer
     ensures { λ r. ⌜ r ≡ Spec.passingAnswer own contact target ⌝ }
 {
-    let verdict = check::check_encounter(own, contact, target, Verdict::Accepted);
+    let verdict = arguments::check_encounter(own, contact, target, Verdict::Accepted);
     match verdict {
         Verdict::Accepted => PassAnswer::Of(passing_from(
             contact.range,
@@ -151,7 +150,10 @@ pub fn passing(own: Vessel, contact: Contact, target: Vessel) -> PassAnswer
 pub fn relative_bearing_of(own: Vessel, contact: Contact) -> BearingAnswer
     ensures { λ r. ⌜ r ≡ Spec.bearingAnswer own contact ⌝ }
 {
-    let verdict = check::check_vessel(own, check::check_contact(contact, Verdict::Accepted));
+    let verdict = arguments::check_vessel(
+        own,
+        arguments::check_contact(contact, Verdict::Accepted),
+    );
     match verdict {
         Verdict::Accepted => BearingAnswer::Of(RelativeBearing(angle::from_degrees_wrapped(
             contact.bearing.0 - own.course.0,

@@ -1,9 +1,8 @@
 // The range ahead at which a contact crosses own track.
 ghost use mathlib.Core.Path.{_≡_};
 ghost use Rattle.relative_motion.specs.Bow as Spec;
+use arguments::Verdict;
 use elementary::error::Refusal;
-use motion::check;
-use motion::check::Verdict;
 use motion::units::Distance;
 use motion::vessel;
 use motion::vessel::Components;
@@ -54,7 +53,7 @@ fn crossing(range: f64, offset: Components, relative: Components, ahead: Compone
 pub fn bow_crossing_range(own: Vessel, contact: Contact, target: Vessel) -> BowAnswer
     ensures { λ r. ⌜ r ≡ Spec.bowAnswer own contact target ⌝ }
 {
-    let verdict = check::check_encounter(own, contact, target, Verdict::Accepted);
+    let verdict = arguments::check_encounter(own, contact, target, Verdict::Accepted);
     match verdict {
         Verdict::Accepted => crossing(
             contact.range.0,

@@ -5,4 +5,3 @@
 // operation.
 pub mod approach;
 pub mod bow;
-pub mod plot;

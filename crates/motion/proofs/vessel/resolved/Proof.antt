@@ -1,3 +1,4 @@
+use mathlib.Core.Path.{refl}
 use Rattle.motion.specs.Vessel.{resolved}
 use borrow.Author.Needs.{needs}
 use Rattle.motion.proofs.vessel.resolved.Statement.{statement}
@@ -8,7 +9,7 @@ unit-requires c κs = search needs
 
 returns : tie.Need-returns
 unfolding resolved
-returns c = cc
+returns c = rw (c .before .before .unit .ensures) refl
 
 pub resolved-spec : {M : Type 1} → statement M
 resolved-spec = tie.close (tie.spec unit-requires returns)

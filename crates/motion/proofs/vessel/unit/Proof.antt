@@ -1,3 +1,4 @@
+use mathlib.Core.Path.{refl}
 use Rattle.motion.specs.Vessel.{unit}
 use borrow.Author.Needs.{needs}
 use Rattle.motion.proofs.vessel.unit.Statement.{statement}
@@ -14,7 +15,7 @@ sin-requires c κs = search needs
 
 returns : tie.Need-returns
 unfolding unit
-returns c = cc
+returns c = rw (c .sin .ensures, c .before .cos .ensures) rw (c .before .before .to-radians .ensures) refl
 
 pub unit-spec : {M : Type 1} → statement M
 unit-spec = tie.close (tie.spec to-radians-requires cos-requires sin-requires returns)

@@ -1,4 +1,4 @@
-use Rattle.relative_motion.proofs.Answers.{crossed, crossing-refused}
+use Rattle.relative_motion.proofs.Crossings.{crossed, crossing-refused}
 use borrow.Author.Needs.{needs}
 use Rattle.relative_motion.proofs.bow.bow_crossing_range.Statement.{statement}
 use Rattle.relative_motion.proofs.bow.bow_crossing_range.Tie as tie

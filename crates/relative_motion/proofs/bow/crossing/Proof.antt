@@ -1,4 +1,4 @@
-use Rattle.relative_motion.proofs.Answers.{on-own-track, in-the-past, astern, ahead-of-bow}
+use Rattle.relative_motion.proofs.Crossings.{on-own-track, in-the-past, astern, ahead-of-bow}
 use borrow.Author.Needs.{needs}
 use Rattle.relative_motion.proofs.bow.crossing.Statement.{statement}
 use Rattle.relative_motion.proofs.bow.crossing.Tie as tie

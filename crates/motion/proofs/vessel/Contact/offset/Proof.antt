@@ -8,7 +8,7 @@ resolved-requires c κs = search needs
 
 returns : tie.Need-returns
 unfolding offset
-returns c = cc
+returns c = c .resolved .ensures
 
 pub offset-spec : {M : Type 1} → statement M
 offset-spec = tie.close (tie.spec resolved-requires returns)

@@ -8,7 +8,7 @@ resolved-requires c κs = search needs
 
 returns : tie.Need-returns
 unfolding velocity
-returns c = cc
+returns c = c .resolved .ensures
 
 pub velocity-spec : {M : Type 1} → statement M
 velocity-spec = tie.close (tie.spec resolved-requires returns)

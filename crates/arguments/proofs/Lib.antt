@@ -1,0 +1,2 @@
+-- Laws on checks.
+pub mod Checks

@@ -1,0 +1,22 @@
+use Rattle.arguments.specs.Check.{verdict, encounterChecks}
+use borrow.Author.Needs.{needs}
+use Rattle.arguments.proofs.check_encounter.Statement.{statement}
+use Rattle.arguments.proofs.check_encounter.Tie as tie
+
+check-vessel-requires : tie.Need-check-vessel-requires
+check-vessel-requires c κs = search needs
+
+check-contact-requires : tie.Need-check-contact-requires
+check-contact-requires c κs = search needs
+
+check-vessel-requires-2 : tie.Need-check-vessel-requires-2
+check-vessel-requires-2 c κs = search needs
+
+returns : tie.Need-returns
+unfolding verdict encounterChecks
+returns c = cc
+
+pub check-encounter-spec : {M : Type 1} → statement M
+check-encounter-spec =
+    tie.close
+    (tie.spec check-vessel-requires check-contact-requires check-vessel-requires-2 returns)

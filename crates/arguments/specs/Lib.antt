@@ -1,0 +1,2 @@
+-- The checks of arguments.
+pub mod Check

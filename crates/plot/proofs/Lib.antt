@@ -1,0 +1,2 @@
+-- What the code of `target_from_plot` owes.
+pub mod Plotted

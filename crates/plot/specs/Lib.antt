@@ -1,0 +1,2 @@
+-- A target's course and speed from two plots.
+pub mod Plot
