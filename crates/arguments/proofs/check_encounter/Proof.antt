@@ -1,4 +1,4 @@
-use Rattle.arguments.specs.Check.{verdict, encounterChecks}
+use Rattle.arguments.proofs.Checks.{encounter-checked}
 use borrow.Author.Needs.{needs}
 use Rattle.arguments.proofs.check_encounter.Statement.{statement}
 use Rattle.arguments.proofs.check_encounter.Tie as tie
@@ -13,8 +13,7 @@ check-vessel-requires-2 : tie.Need-check-vessel-requires-2
 check-vessel-requires-2 c κs = search needs
 
 returns : tie.Need-returns
-unfolding verdict encounterChecks
-returns c = cc
+returns c = encounter-checked _ _ _ _ _ _ _ (c .before .before .check-vessel .ensures) (c .before .check-contact .ensures) (c .check-vessel2 .ensures)
 
 pub check-encounter-spec : {M : Type 1} → statement M
 check-encounter-spec =

@@ -1,0 +1,17 @@
+use Rattle.exports_ruling.specs.Words.{contact, meeting}
+use borrow.Author.Needs.{needs}
+use Rattle.exports_ruling.proofs.meeting.Statement.{statement}
+use Rattle.exports_ruling.proofs.meeting.Tie as tie
+
+visibility-requires : tie.Need-visibility-requires
+visibility-requires c κs = search needs
+
+new-requires : tie.Need-new-requires
+new-requires c κs = search needs
+
+returns : tie.Need-returns
+unfolding meeting contact
+returns c = cc
+
+pub meeting-spec : {M : Type 1} → statement M
+meeting-spec = tie.close (tie.spec visibility-requires new-requires returns)

@@ -1,0 +1,46 @@
+use Rattle.exports_ruling.specs.Words.{ruled}
+use borrow.Author.Needs.{needs}
+use Rattle.exports_ruling.proofs.ruled.Statement.{statement}
+use Rattle.exports_ruling.proofs.ruled.Tie as tie
+
+encounter-code-requires : tie.Need-encounter-code-requires
+encounter-code-requires c κs = search needs
+
+responsibility-code-requires : tie.Need-responsibility-code-requires
+responsibility-code-requires c κs = search needs
+
+number-requires : tie.Need-number-requires
+number-requires c κs = search needs
+
+cast-t9 : tie.Need-cast-t9
+cast-t9 c = search needs
+
+flag-requires : tie.Need-flag-requires
+flag-requires c κs = search needs
+
+flag-requires-2 : tie.Need-flag-requires-2
+flag-requires-2 c κs = search needs
+
+flag-requires-3 : tie.Need-flag-requires-3
+flag-requires-3 c κs = search needs
+
+flag-requires-4 : tie.Need-flag-requires-4
+flag-requires-4 c κs = search needs
+
+returns : tie.Need-returns
+unfolding ruled
+returns c = cc
+
+pub ruled-spec : {M : Type 1} → statement M
+ruled-spec =
+    tie.close
+    (tie.spec
+    encounter-code-requires
+    responsibility-code-requires
+    number-requires
+    cast-t9
+    flag-requires
+    flag-requires-2
+    flag-requires-3
+    flag-requires-4
+    returns)

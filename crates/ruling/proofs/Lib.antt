@@ -1,0 +1,4 @@
+-- Laws on rulings.
+pub mod Duties
+pub mod Encounters
+pub mod Ruled

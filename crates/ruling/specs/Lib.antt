@@ -1,0 +1,3 @@
+-- The ruling.
+pub mod Colregs
+pub mod Ruling

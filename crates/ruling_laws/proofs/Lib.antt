@@ -1,0 +1,5 @@
+-- Laws on rulings.
+pub mod Corners
+pub mod Departures
+pub mod Reliable
+pub mod Rows

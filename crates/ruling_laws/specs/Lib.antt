@@ -1,0 +1,2 @@
+-- What is proved of rulings.
+pub mod Log

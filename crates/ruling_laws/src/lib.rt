@@ -1,0 +1,2 @@
+// Laws on rulings: one kind of encounter, the sides that a ruling permits, the corners and the departures from COLREGs. There is no
+// code.

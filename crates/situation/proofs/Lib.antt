@@ -1,0 +1,3 @@
+-- What the code owes.
+pub mod Checked
+pub mod Gathered

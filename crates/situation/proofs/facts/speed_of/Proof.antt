@@ -1,0 +1,14 @@
+use Rattle.situation.specs.Facts.{speedOf}
+use borrow.Author.Needs.{needs}
+use Rattle.situation.proofs.facts.speed_of.Statement.{statement}
+use Rattle.situation.proofs.facts.speed_of.Tie as tie
+
+hypot-requires : tie.Need-hypot-requires
+hypot-requires c κs = search needs
+
+returns : tie.Need-returns
+unfolding speedOf
+returns c = cc
+
+pub speed-of-spec : {M : Type 1} → statement M
+speed-of-spec = tie.close (tie.spec hypot-requires returns)
