@@ -8,14 +8,18 @@ use std::process::Command;
 use std::{env, fs};
 
 /// The archives with the port's C exports.
-const ARCHIVES: &[&str] = &["elementary", "exports", "exports_time", "exports_motion"];
+const ARCHIVES: &[&str] = &["elementary", "exports", "exports_time", "exports_motion", "exports_ruling"];
 
 /// The listed files in use: module name and path below the sources' folder. The name `error` is the kernel's.
 const LISTED: &[(&str, &str)] = &[
     ("math", "crates/kinavis-kernel/src/math.rs"),
     ("navigation_error", "crates/kinavis/src/error.rs"),
     ("relative_motion", "crates/kinavis/src/relative_motion.rs"),
+    ("colregs", "crates/kinavis-colregs/src/lib.rs"),
 ];
+
+/// The listed files that a listed file names as its own module, which Rust then looks for beside it.
+const NESTED: &[(&str, &str)] = &[("rules", "crates/kinavis-colregs/src/rules.rs")];
 
 fn main() {
     let root = PathBuf::from(env::var("CARGO_MANIFEST_DIR").unwrap()).join("..");
@@ -36,13 +40,19 @@ fn build_archives(root: &Path) {
 fn copy_listed(root: &Path) {
     let from = env::var("KINAVIS_SRC").map_or_else(|_| root.join("../shared/docs/src"), PathBuf::from);
     let out = PathBuf::from(env::var("OUT_DIR").unwrap());
+    let copy = |module: &str, path: &str| {
+        let (source, copy) = (from.join(path), out.join(format!("{module}.rs")));
+        fs::copy(&source, &copy).unwrap_or_else(|e| panic!("{}: {e} (set KINAVIS_SRC)", source.display()));
+        println!("cargo:rerun-if-changed={}", source.display());
+        copy
+    };
     let mut joined = String::new();
     for (module, path) in LISTED {
-        let source = from.join(path);
-        let copy = out.join(format!("{module}.rs"));
-        fs::copy(&source, &copy).unwrap_or_else(|e| panic!("{}: {e} (set KINAVIS_SRC)", source.display()));
-        joined += &format!("#[path = {copy:?}]\n#[allow(dead_code)]\npub mod {module};\n");
-        println!("cargo:rerun-if-changed={}", source.display());
+        // lib.rs of a crate has an attribute that is without effect in a module.
+        joined += &format!("#[path = {:?}]\n#[allow(dead_code, unused_attributes)]\npub mod {module};\n", copy(module, path));
+    }
+    for (module, path) in NESTED {
+        copy(module, path);
     }
     fs::write(out.join("listed.rs"), joined).unwrap();
     println!("cargo:rerun-if-env-changed=KINAVIS_SRC");

@@ -5,7 +5,7 @@ use std::time::Instant;
 
 use crate::angle::{wrap180, wrap360};
 use crate::inputs::Random;
-use crate::{motion, port};
+use crate::{calls, motion, port, ruling};
 
 const COUNT: usize = 4096;
 const ROUNDS: usize = 400;
@@ -52,6 +52,7 @@ pub fn all() {
     report("wrap180", &pairs, |_, y| port::wrap180(y), |_, y| wrap180(y));
     report("seconds to nanoseconds", &pairs, |x, _| f64::from(port::time_nanos(x)), |x, _| f64::from(crate::compare::time(x).2));
     relative_motion();
+    rule_of_the_road();
 }
 
 /// The functions of relative motion on accepted arguments that they don't refuse, beside the Rust on the port's elementary
@@ -61,6 +62,19 @@ fn relative_motion() {
     for f in &motion::FUNCTIONS {
         let cases = f.answered(COUNT / 4);
         let (port, six, std) = (measure(&cases, |a| (f.port)(f.parts - 1, a)), measure(&cases, f.rust), measure(&cases, f.rust_std));
-        println!("{:<26} {port:7.1} ns {six:14.1} ns {std:7.1} ns {:6.2}", f.name, port / std);
+        row(f.name, port, six, std);
     }
+}
+
+fn row(name: &str, port: f64, six: f64, std: f64) {
+    println!("{name:<26} {port:7.1} ns {six:14.1} ns {std:7.1} ns {:6.2}", port / std);
+}
+
+/// The ruling, likewise; the port answers the encounter alone.
+fn rule_of_the_road() {
+    let cases = ruling::answered(1000);
+    let port = measure(&cases, |case| case.port(1));
+    let six = measure(&cases, |case| calls::ruling(case.codes, case.words()));
+    let std = measure(&cases, |case| kinavis_std::calls::ruling(case.codes, case.words()));
+    row("rule_of_the_road", port, six, std);
 }

@@ -5,7 +5,7 @@ use std::time::Duration;
 use crate::angle::{wrap180, wrap360};
 use crate::big::{units, Big};
 use crate::inputs::{Random, LIMITS};
-use crate::{arcs, circular, math, method, motion, port};
+use crate::{arcs, circular, math, method, motion, port, ruling};
 
 /// Runs a comparison `count` times and reports it; `case` answers the words of a difference.
 pub fn run(name: &str, count: u64, mut case: impl FnMut(u64, &mut Random) -> Option<String>) -> bool {
@@ -280,6 +280,7 @@ pub fn all(count: u64) -> bool {
     });
     good &= exact_multiplication();
     good &= motion::compare(count);
+    good &= ruling::compare(count);
     good
 }
 

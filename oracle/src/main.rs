@@ -11,6 +11,7 @@ mod inputs;
 mod method;
 mod motion;
 mod port;
+mod ruling;
 mod vectors;
 
 // The listed Rust, unchanged, on the port's elementary functions.
@@ -26,10 +27,7 @@ fn main() {
                 std::process::exit(1);
             }
         }
-        Some("vectors") => {
-            vectors::write();
-            motion::write();
-        }
+        Some("vectors") => vectors::write(),
         Some("bench") => bench::all(),
         _ => {
             eprintln!("oracle compare [N] | vectors | bench");

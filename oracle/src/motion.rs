@@ -5,18 +5,20 @@ use crate::angle::wrap360;
 use crate::calls::{self, Answer, Words};
 use crate::compare::{run, same};
 use crate::inputs::{neighbour, Random};
-use crate::vectors::store;
+use crate::vectors::Module;
 use crate::{math, port};
 
 /// What an argument is, with the number that refuses a bad one. Elapsed time is two words, the last ones.
 #[derive(Clone, Copy, PartialEq)]
-enum Kind {
+pub enum Kind {
     Direction = 1,
     Speed = 2,
     Distance = 3,
     Elapsed = 6,
+    /// An angle of a config.
+    Width = 12,
 }
-use Kind::{Direction, Distance, Elapsed, Speed};
+use Kind::{Direction, Distance, Elapsed, Speed, Width};
 
 /// A function: its arguments, how many parts its answer has, the port's (which answers a part) and the Rust on the port's
 /// elementary functions and on the standard library's; and arguments from document 01's corners and examples.
@@ -159,13 +161,14 @@ const APPROACHES: &[&[f64]] = &[
 /// The longest time that is accepted, in seconds.
 const LONGEST: u64 = 1 << 53;
 
-fn is_accepted(kind: Kind, words: &[u64]) -> bool {
+pub fn is_accepted(kind: Kind, words: &[u64]) -> bool {
     let x = f64::from_bits(words[0]);
     match kind {
         Direction => (0.0..360.0).contains(&x),
         Speed => (0.0..=1000.0).contains(&x),
         Distance => (0.0..=10_000.0).contains(&x),
         Elapsed => words[1] < 1_000_000_000 && (words[0], words[1]) <= (LONGEST, 0),
+        Width => (0.0..=90.0).contains(&x),
     }
 }
 
@@ -246,15 +249,16 @@ fn sizes(kind: Kind) -> (f64, u64) {
         Speed => (1000.0, 30),
         Distance => (10_000.0, 12),
         Elapsed => (LONGEST as f64, 3600),
+        Width => (90.0, 90),
     }
 }
 
-fn any<T: Copy>(list: &[T], random: &mut Random) -> T {
+pub fn any<T: Copy>(list: &[T], random: &mut Random) -> T {
     list[random.below(list.len() as u64) as usize]
 }
 
 /// An accepted argument: a whole number, a multiple of 1/1024, any number of a usual size or of any.
-fn accepted(kind: Kind, words: &mut [u64], random: &mut Random) {
+pub fn accepted(kind: Kind, words: &mut [u64], random: &mut Random) {
     let (most, usual) = sizes(kind);
     let x = match random.below(4) {
         0 => random.below(usual) as f64,
@@ -271,7 +275,7 @@ fn accepted(kind: Kind, words: &mut [u64], random: &mut Random) {
 }
 
 /// An argument where something turns: the ends, quarters of a circle, tiny numbers, the limits of relative motion.
-fn turning(kind: Kind, words: &mut [u64], random: &mut Random) {
+pub fn turning(kind: Kind, words: &mut [u64], random: &mut Random) {
     let quarter = random.below(8) as f64 * 45.0;
     let tiny = [5e-324, 1e-300, 1.5e-162, 1e-15, 1e-12, 1e-9];
     if kind == Elapsed {
@@ -284,7 +288,7 @@ fn turning(kind: Kind, words: &mut [u64], random: &mut Random) {
 }
 
 /// An argument that is not accepted.
-fn bad(kind: Kind, words: &mut [u64], random: &mut Random) {
+pub fn bad(kind: Kind, words: &mut [u64], random: &mut Random) {
     if kind == Elapsed {
         let times = [(0, 0), (LONGEST, 1), (LONGEST + 1, 0), (0, 1_000_000_000), (1, u64::from(u32::MAX)), (u64::MAX, u64::from(u32::MAX))];
         (words[0], words[1]) = any(&times, random);
@@ -296,7 +300,7 @@ fn bad(kind: Kind, words: &mut [u64], random: &mut Random) {
 }
 
 /// The bearing, in degrees of either sign, of a contact that comes straight on.
-fn collision_bearing(own_course: f64, own_speed: f64, course: f64, speed: f64) -> f64 {
+pub fn collision_bearing(own_course: f64, own_speed: f64, course: f64, speed: f64) -> f64 {
     let (own, target) = (math::to_radians(own_course), math::to_radians(course));
     let (north, east) = (own_speed * own.cos() - speed * target.cos(), own_speed * own.sin() - speed * target.sin());
     math::to_degrees(east.atan2(north))
@@ -368,21 +372,18 @@ pub fn compare(count: u64) -> bool {
 /// Cases of each function in the records.
 const EACH: u64 = 120;
 
-/// Writes the records and answers that `motion_main` replays in the gate: function, part, arguments. An answer is the port's
-/// once it is known to be the Rust's, so that a zero has the port's sign.
-pub fn write() {
+/// Writes the records and answers that `module_main` replays in the gate. An answer is the port's once it is known to be the
+/// Rust's, so that a zero has the port's sign.
+pub fn write(module: &mut Module) {
     let mut random = Random::new(13);
-    let (mut records, mut answers) = (Vec::new(), Vec::new());
     for (which, f) in FUNCTIONS.iter().enumerate() {
         for i in 0..EACH {
             let words = if i < EACH * 2 / 3 { f.adversarial(i, &mut random) } else { f.random(&mut random) };
             let wanted = f.reference(words);
             assert_eq!(f.difference(words, wanted), None);
             for part in 0..f.parts {
-                records.extend([which as u64, u64::from(part)].into_iter().chain(words).chain([0, 0]));
-                answers.push((f.port)(part, words));
+                module.push(which as u64, part, words, (f.port)(part, words));
             }
         }
     }
-    store("motion_main", &records, &answers);
 }

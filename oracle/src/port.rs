@@ -48,4 +48,9 @@ exports! {
         part: u32, own_course: f64, own_speed: f64, bearing: f64, range: f64, course: f64, speed: f64, desired: f64
     ) -> u64;
     bearing = motion_bearing(part: u32, own_course: f64, own_speed: f64, bearing: f64, range: f64) -> u64;
+    ruling = colregs_ruling(
+        part: u32, codes: u32, own_course: f64, own_speed: f64, own_heading: f64, bearing: f64, range: f64, course: f64, speed: f64,
+        heading: f64, wind: f64, abaft: f64, width: f64
+    ) -> u64;
+    precedence = colregs_precedence(code: u32) -> u8;
 }

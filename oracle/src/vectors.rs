@@ -1,13 +1,14 @@
-//! The records and answers that `elementary_main` replays in the gate.
+//! The records and answers that `elementary_main` and `module_main` replay in the gate.
 
 use std::fs;
+use std::iter::repeat;
 use std::path::Path;
 
 use crate::angle::{wrap180, wrap360};
 use crate::arcs::{arcsine_input, arctangent_input};
 use crate::compare::{angle_input, hypot_input, hypotenuse_holds, time};
 use crate::inputs::{Random, LIMITS};
-use crate::{math, method, port};
+use crate::{math, method, motion, port, ruling};
 
 /// The pattern that stands for every NaN.
 const NAN: u64 = 0x7ff8_0000_0000_0000;
@@ -118,7 +119,7 @@ fn arguments(which: u64, i: u64, random: &mut Random) -> (u64, u64) {
 }
 
 /// Stores what a program of the port reads, records of little-endian words, and what it then has to print.
-pub fn store(program: &str, records: &[u64], answers: &[u64]) {
+fn store(program: &str, records: &[u64], answers: &[u64]) {
     let folder = Path::new(env!("CARGO_MANIFEST_DIR")).join("../crates").join(program);
     let bytes: Vec<u8> = records.iter().flat_map(|word| word.to_le_bytes()).collect();
     let lines: String = answers.iter().map(|answer| format!("{answer:016x}\n")).collect();
@@ -126,7 +127,31 @@ pub fn store(program: &str, records: &[u64], answers: &[u64]) {
     fs::write(folder.join("stdout"), lines).unwrap();
 }
 
+/// What `module_main` replays: a function's number, a part of its answer and the arguments; and the answers.
+#[derive(Default)]
+pub struct Module {
+    records: Vec<u64>,
+    answers: Vec<u64>,
+}
+
+impl Module {
+    /// Adds a record of sixteen words.
+    pub fn push(&mut self, which: u64, part: u32, arguments: impl IntoIterator<Item = u64>, answer: u64) {
+        let words = [which, u64::from(part)].into_iter().chain(arguments).chain(repeat(0));
+        self.records.extend(words.take(16));
+        self.answers.push(answer);
+    }
+}
+
 pub fn write() {
+    write_elementary();
+    let mut module = Module::default();
+    motion::write(&mut module);
+    ruling::write(&mut module);
+    store("module_main", &module.records, &module.answers);
+}
+
+fn write_elementary() {
     let mut random = Random::new(11);
     let (mut records, mut answers) = (Vec::new(), Vec::new());
     for which in (0..=16).chain(20..=38) {

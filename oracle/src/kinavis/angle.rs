@@ -25,6 +25,13 @@ pub fn wrap180(degrees: f64) -> f64 {
     }
 }
 
+/// A side of a vessel.
+#[derive(Debug, Clone, Copy, PartialEq, Eq, Hash)]
+pub enum Side {
+    Port,
+    Starboard,
+}
+
 /// What a direction is measured from: north, or own bow.
 #[derive(Debug, Clone, Copy, PartialEq)]
 pub struct True;

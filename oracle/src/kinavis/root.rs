@@ -1,7 +1,8 @@
 // The root of a crate that holds the listed Rust, which names its parts from there. Two crates include it: the program, where
 // `sin` and the other elementary functions at the root are the port's, and `kinavis_std`, where they are the standard library's.
 
-// The kernel's parts stand at the root too, and so does what math.rs takes from `libm`.
+// The parts of kinavis and of the kernel stand at the root too, and so does what math.rs takes from `libm`.
+extern crate self as kinavis;
 extern crate self as kinavis_kernel;
 extern crate self as libm;
 
@@ -16,6 +17,11 @@ pub mod local;
 pub mod units;
 
 include!(concat!(env!("OUT_DIR"), "/listed.rs"));
+
+// What rules.rs takes from the root of its own crate.
+pub use colregs::{
+    ColregsConfig, Encounter, PermittedManoeuvre, Responsibility, Rule, Ruling, Situation, Tack, VesselCategory, Visibility,
+};
 
 /// Functions under libm's names that the standard library answers.
 macro_rules! of_std {

@@ -12,11 +12,11 @@ macro_rules! unit {
         pub struct $name(f64);
 
         impl $name {
-            pub fn $from(x: f64) -> Self {
+            pub const fn $from(x: f64) -> Self {
                 Self(x)
             }
 
-            pub fn $read(self) -> f64 {
+            pub const fn $read(self) -> f64 {
                 self.0
             }
         }
