@@ -16,15 +16,15 @@ use Rattle.situation.specs.declared.party.Party.{Party}
 use Rattle.situation.specs.declared.party.Situation.{Situation}
 use Rattle.situation.specs.declared.config.ColregsConfig.{ColregsConfig}
 use Rattle.situation.specs.Situation as Parties
-use Rattle.ruling.specs.declared.answer.Side.the-variants as Side
-use Rattle.ruling.specs.declared.answer.Encounter.{Encounter}
-use Rattle.ruling.specs.declared.answer.Encounter.the-variants.{Overtaking, BeingOvertaken, HeadOn, Crossing}
-use Rattle.ruling.specs.declared.answer.Responsibility.{Responsibility}
-use Rattle.ruling.specs.declared.answer.Responsibility.the-variants.{GiveWay, StandOn, Both, Undetermined}
-use Rattle.ruling.specs.declared.answer.Ruling.{Ruling}
-use Rattle.ruling.specs.declared.answer.RulingAnswer.{RulingAnswer}
-use Rattle.ruling.specs.declared.answer.RulingAnswer.the-variants as RulingAnswer
-use Rattle.ruling.specs.Ruling.{ruleNumber}
+use Rattle.colregs.specs.declared.answer.Side.the-variants as Side
+use Rattle.colregs.specs.declared.answer.Encounter.{Encounter}
+use Rattle.colregs.specs.declared.answer.Encounter.the-variants.{Overtaking, BeingOvertaken, HeadOn, Crossing}
+use Rattle.colregs.specs.declared.answer.Responsibility.{Responsibility}
+use Rattle.colregs.specs.declared.answer.Responsibility.the-variants.{GiveWay, StandOn, Both, Undetermined}
+use Rattle.colregs.specs.declared.answer.Ruling.{Ruling}
+use Rattle.colregs.specs.declared.answer.RulingAnswer.{RulingAnswer}
+use Rattle.colregs.specs.declared.answer.RulingAnswer.the-variants as RulingAnswer
+use Rattle.colregs.specs.Ruling.{ruleNumber}
 use Rattle.exports_ruling.specs.declared.Words.{Words}
 
 unfoldable pub word : Words → ℕ → ℕ

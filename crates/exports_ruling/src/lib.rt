@@ -6,8 +6,13 @@
 // and the wind.
 ghost use mathlib.Core.Path.{_≡_};
 ghost use Rattle.situation.specs.Situation as Parties;
-ghost use Rattle.ruling.specs.Colregs as Colregs;
+ghost use Rattle.colregs.specs.Colregs as Colregs;
 ghost use Rattle.exports_ruling.specs.Words as Spec;
+use colregs::answer::Encounter;
+use colregs::answer::Responsibility;
+use colregs::answer::Ruling;
+use colregs::answer::RulingAnswer;
+use colregs::answer::Side;
 use elementary::error::Refusal;
 use motion::units::Angle;
 use motion::units::Direction;
@@ -15,11 +20,6 @@ use motion::units::Distance;
 use motion::units::Speed;
 use motion::vessel::Contact;
 use motion::vessel::Vessel;
-use ruling::answer::Encounter;
-use ruling::answer::Responsibility;
-use ruling::answer::Ruling;
-use ruling::answer::RulingAnswer;
-use ruling::answer::Side;
 use situation::config::ColregsConfig;
 use situation::party::Party;
 use situation::party::Perhaps;

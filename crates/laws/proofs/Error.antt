@@ -2,7 +2,7 @@
 use mathlib.Core.Path.{refl, sym, subst}
 use mathlib.Core.Bool.{Bool, false}
 use Prim.Native.Nat.{ℕ, _+_, _*_, _^_, _≤_, _<_}
-use native.Mathlib.Nat.{le-trans, le-of-eq, lt-of-lt-of-le, lt-of-not-le, mul-comm, mul-right-comm, mul-le-mul-right, le-of-mul-le-mul-right, mul-pos}
+use native.Mathlib.Nat.{one-mul, le-trans, le-of-eq, lt-of-lt-of-le, lt-of-not-le, mul-comm, mul-right-comm, mul-le-mul-right, le-of-mul-le-mul-right, mul-pos}
 use mathlib.Core.Path.{ap, _∙_}
 use native.Mathlib.Omega.{arith}
 use lib.Dec.{T, lit<, lit≤}
@@ -108,3 +108,7 @@ any-sum x y s t a b v w h =
 -- ---- the quotient of a and b units: near a * 2 ^ 1074 / b
 pub quotient : (x y : Float) (s t : Bool) (a b : ℕ) → 0 < b → Units x s a → Units y t b → a ≤ b * 2 ^ 1023 → Rounded (div binary64 x y) (unlike s t) a b
 quotient x y s t a b B v w h = subst (λ z. Rounded z (unlike s t) a b) (sym (div-units x y s t a b B v w)) (rounded (unlike s t) a b B h)
+
+-- n units, rounded: within one part in 2 ^ 53 and a half of a unit
+pub grid-close : (n : ℕ) → Close (2 ^ 53) n 1 (grid binary64 n (2 ^ 1074))
+grid-close n = close-cancel (2 ^ 53) n 1 (grid binary64 n (2 ^ 1074)) (2 ^ 1074) (pow-pos 1074) (subst (λ u. Close (2 ^ 53) (n * 2 ^ 1074) u (grid binary64 n (2 ^ 1074))) (sym (one-mul (2 ^ 1074))) (close-at-all (n * 2 ^ 1074) (2 ^ 1074) (pow-pos 1074)))

@@ -1,4 +1,5 @@
 -- The laws, each file on one idea.
+pub mod Amount
 pub mod Bools
 pub mod Compare
 pub mod Error

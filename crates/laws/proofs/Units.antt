@@ -2,13 +2,13 @@
 use mathlib.Core.Path.{_≡_, refl, sym, ap, _∙_, subst}
 use mathlib.Core.Bool.{Bool, true, false, not, _&&_, cond, true≢false}
 use Prim.Native.Nat.{ℕ, zero, suc, _+_, _*_, _-_, _^_, _/_, _%_, _≤_, _<_}
-use native.Mathlib.Nat.{not-le-of-lt, mul-pos, mul-one, one-mul, zero-mul, mul-comm, mul-assoc, mul-right-comm, mul-div-cancel, zero-div, lt-irrefl, eq-of-mul-eq-mul-right, zero-lt-suc, le-refl, le-of-eq, mul-lt-mul-of-pos-right, lt-of-mul-lt-mul-right}
+use native.Mathlib.Nat.{not-le-of-lt, mul-le-mul-right, le-of-mul-le-mul-right, mul-pos, mul-one, one-mul, zero-mul, mul-comm, mul-assoc, mul-right-comm, mul-div-cancel, zero-div, lt-irrefl, eq-of-mul-eq-mul-right, zero-lt-suc, le-refl, le-of-eq, mul-lt-mul-of-pos-right, lt-of-mul-lt-mul-right}
 use native.Mathlib.Omega.{arith}
 use lib.IntN.{ℤ, pos, negsuc}
 use lib.Arith.{le→nltb}
 use lib.Dec.{T, ltb, leb, eqb, ltb→lt, lt→ltb, leb→le, eqb→eq, not-T, lit<}
 use lib.Pow.{pow-add, pow-pos, pow-lt}
-use lib.Ieee.{Float, nan, inf, fin, binary64, fits, up, down, mul, add, div, neg, sum, round, unlike, toBits, ofBits, top, hid, size}
+use lib.Ieee.{Float, nan, inf, fin, binary64, fits, up, down, mul, add, sub, div, neg, sum, round, unlike, toBits, ofBits, top, hid, size}
 use lib.Ieee.Bits.{ofBits-toBits, cond-no, is-true, is-false}
 use lib.Ieee.Exact.{HasValue}
 use lib.Ieee.Fits.{and-l, and-r, up-pos, down-pos}
@@ -240,6 +240,22 @@ add-equal (fin true m e) (fin false n d) true a b v w h =
 add-equal (fin true m e) (fin false n d) false a b v w h = absurd (true≢false (v .0))
 add-equal (fin false m e) (fin true n d) false a b v w h = rw (not-under m e n d a b (v .1) (w .1) (m * up e * down d) (n * up d * down e) (level m e n d a b (v .1) (w .1) h)) (equal m e n d a b (v .1) (w .1) h)
 add-equal (fin false m e) (fin true n d) true a b v w h = absurd (true≢false (sym (v .0)))
+
+-- a difference of floats that have their signs clear, the second not larger
+pub sub-units : (x y : Float) (a b : ℕ) → Units x false a → Units y false b → b ≤ a → sub binary64 x y ≡ round binary64 false (a - b) (2 ^ 1074)
+unfolding sub add sum neg
+sub-units nan y a b v w h = absurd v
+sub-units (inf u) y a b v w h = absurd v
+sub-units (fin u m e) nan a b v w h = absurd w
+sub-units (fin u m e) (inf r) a b v w h = absurd w
+sub-units (fin true m e) (fin r n d) a b v w h = absurd (true≢false (v .0))
+sub-units (fin false m e) (fin true n d) a b v w h = absurd (true≢false (w .0))
+sub-units (fin false m e) (fin false n d) a b v w h =
+    rw (is-false (ltb (m * up e * down d) (n * up d * down e)) (le→nltb (m * up e * down d) (n * up d * down e) over))
+    (round-same binary64 false (m * up e * down d - n * up d * down e) (down e * down d) (a - b) (2 ^ 1074) (mul-pos (down-pos e) (down-pos d)) (pow-pos 1074) (cross-sub (m * up e) (down e) (n * up d) (down d) a b (2 ^ 1074) (v .1) (w .1)))
+  where
+    over : n * up d * down e ≤ m * up e * down d
+    over = le-of-mul-le-mul-right {k = 2 ^ 1074} (subst (λ k. k ≤ m * up e * down d * 2 ^ 1074) (sym (second m e n d a b (v .1) (w .1))) (subst (λ k. b * (down e * down d) ≤ k) (sym (first m e n d a b (v .1) (w .1))) (mul-le-mul-right (down e * down d) h))) (pow-pos 1074)
 
 -- ---- the quotient
 cross-div : (x d y g a b L : ℕ) → 0 < L → x * L ≡ a * d → y * L ≡ b * g → x * g * b ≡ a * (y * d)

@@ -14,3 +14,6 @@ pub struct Direction(pub f64);
 
 // A bearing from own bow: degrees clockwise.
 pub struct RelativeBearing(pub f64);
+
+// Degrees per minute: a rate of turn, or the drift of a bearing.
+pub struct RateOfTurn(pub f64);

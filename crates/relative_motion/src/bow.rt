@@ -31,7 +31,12 @@ fn not_negative(x: f64) -> f64
 }
 
 // offset + relative * time = ahead * range, solved for the time and the range.
-fn crossing(range: f64, offset: Components, relative: Components, ahead: Components) -> BowAnswer
+pub fn crossing(
+    range: f64,
+    offset: Components,
+    relative: Components,
+    ahead: Components,
+) -> BowAnswer
     ensures { λ r. ⌜ r ≡ Spec.crossing range offset relative ahead ⌝ }
 {
     let determinant = relative.north * -ahead.east - relative.east * -ahead.north;

@@ -1,4 +1,2 @@
--- Laws on rulings.
-pub mod Duties
-pub mod Encounters
+-- What the code of the ruling owes.
 pub mod Ruled

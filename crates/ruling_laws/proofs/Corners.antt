@@ -28,11 +28,11 @@ use Rattle.situation.specs.declared.config.ColregsConfig.{ColregsConfig}
 use Rattle.situation.specs.Situation.{party, withHeading, heading, situation, withWindFrom}
 use Rattle.situation.specs.Facts.{relativeOf, aspectOf, larger, speedOf, rangeRate, isClosing, factsOf}
 use Rattle.situation.specs.Arguments.{partyChecks, isWidth, situationChecks}
-use Rattle.ruling.specs.declared.answer.Side.the-variants.{Port, Starboard}
-use Rattle.ruling.specs.declared.answer.Encounter.the-variants.{Overtaking, BeingOvertaken, HeadOn, Crossing}
-use Rattle.ruling.specs.declared.answer.Responsibility.the-variants.{GiveWay, StandOn, Both}
-use Rattle.ruling.specs.declared.answer.Rule.the-variants.{Rule13, Rule14, Rule15, Rule17, Rule19}
-use Rattle.ruling.specs.Colregs.{abaft, ownComesUp, targetComesUp, ownOvertakes, targetOvertakes, isHeadOn, sideOf, rule18, encounterOf, decided, forwardOfBeam, starboardBy19, portBy19, portBy17, permitted, rulingFor, rulingOf, rulingAnswer}
+use Rattle.colregs.specs.declared.answer.Side.the-variants.{Port, Starboard}
+use Rattle.colregs.specs.declared.answer.Encounter.the-variants.{Overtaking, BeingOvertaken, HeadOn, Crossing}
+use Rattle.colregs.specs.declared.answer.Responsibility.the-variants.{GiveWay, StandOn, Both}
+use Rattle.colregs.specs.declared.answer.Rule.the-variants.{Rule13, Rule14, Rule15, Rule17, Rule19}
+use Rattle.colregs.specs.Colregs.{abaft, ownComesUp, targetComesUp, ownOvertakes, targetOvertakes, isHeadOn, sideOf, rule18, encounterOf, decided, forwardOfBeam, starboardBy19, portBy19, portBy17, permitted, rulingFor, rulingOf, rulingAnswer}
 use Rattle.ruling_laws.proofs.Rows.{Row, every, number, power, heads, vessel, contact, seen, unseen, wind, rules, refuses}
 
 -- a power-driven vessel on a course by its bits; a situation with a bearing by its bits

@@ -24,11 +24,11 @@ use Rattle.situation.specs.declared.party.VesselCategory.the-variants.{PowerDri
 use Rattle.situation.specs.Situation.{party, withHeading, heading, situation, withWindFrom}
 use Rattle.situation.specs.Facts.{relativeOf, aspectOf, larger, speedOf, rangeRate, isClosing, factsOf}
 use Rattle.situation.specs.Arguments.{partyChecks, isWidth, situationChecks}
-use Rattle.ruling.specs.declared.answer.Side.the-variants.{Port, Starboard}
-use Rattle.ruling.specs.declared.answer.Encounter.the-variants.{Overtaking, BeingOvertaken, HeadOn, Crossing}
-use Rattle.ruling.specs.declared.answer.Responsibility.the-variants.{GiveWay, StandOn, Both, Undetermined}
-use Rattle.ruling.specs.declared.answer.Rule.the-variants.{Rule12, Rule13, Rule14, Rule15, Rule17, Rule18, Rule19}
-use Rattle.ruling.specs.Colregs.{abaft, ownComesUp, targetComesUp, ownOvertakes, targetOvertakes, isHeadOn, sideOf, rule18, encounterOf, decided, forwardOfBeam, starboardBy19, portBy19, portBy17, permitted, rulingFor, rulingOf, rulingAnswer}
+use Rattle.colregs.specs.declared.answer.Side.the-variants.{Port, Starboard}
+use Rattle.colregs.specs.declared.answer.Encounter.the-variants.{Overtaking, BeingOvertaken, HeadOn, Crossing}
+use Rattle.colregs.specs.declared.answer.Responsibility.the-variants.{GiveWay, StandOn, Both, Undetermined}
+use Rattle.colregs.specs.declared.answer.Rule.the-variants.{Rule12, Rule13, Rule14, Rule15, Rule17, Rule18, Rule19}
+use Rattle.colregs.specs.Colregs.{abaft, ownComesUp, targetComesUp, ownOvertakes, targetOvertakes, isHeadOn, sideOf, rule18, encounterOf, decided, forwardOfBeam, starboardBy19, portBy19, portBy17, permitted, rulingFor, rulingOf, rulingAnswer}
 use Rattle.ruling_laws.proofs.Rows.{Row, every, a, power, heads, vessel, seen, unseen, wind, rules}
 
 unfoldable pub departures : List Row

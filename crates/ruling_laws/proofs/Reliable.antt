@@ -5,6 +5,7 @@ use lib.Dec.{T}
 use mathlib.Core.List.{List, [], _∷_}
 use Prim.Native.Nat.{ℕ, zero, suc}
 use lib.Ieee.{Float}
+use Rattle.laws.proofs.Bools.{or-right}
 use Rattle.situation.specs.declared.party.Visibility.{Visibility}
 use Rattle.situation.specs.declared.party.Visibility.the-variants.{InSight, Restricted}
 use Rattle.situation.specs.declared.party.VesselCategory.{VesselCategory}
@@ -15,16 +16,16 @@ use Rattle.situation.specs.declared.facts.Windward.{Windward}
 use Rattle.situation.specs.declared.facts.Windward.the-variants as Windward
 use Rattle.situation.specs.declared.config.ColregsConfig.{ColregsConfig}
 use Rattle.situation.specs.declared.facts.Facts.{Facts}
-use Rattle.ruling.specs.declared.answer.Side.{Side}
-use Rattle.ruling.specs.declared.answer.Side.the-variants.{Port, Starboard}
-use Rattle.ruling.specs.declared.answer.Encounter.{Encounter}
-use Rattle.ruling.specs.declared.answer.Encounter.the-variants.{Overtaking, BeingOvertaken, HeadOn, Crossing}
-use Rattle.ruling.specs.declared.answer.Responsibility.{Responsibility}
-use Rattle.ruling.specs.declared.answer.Responsibility.the-variants.{GiveWay, StandOn, Both, Undetermined}
-use Rattle.ruling.specs.declared.answer.Rule.{Rule}
-use Rattle.ruling.specs.declared.answer.Rule.the-variants.{Rule12, Rule13, Rule14, Rule15, Rule17, Rule18, Rule19}
-use Rattle.ruling.specs.declared.rules.Decision.{Decision}
-use Rattle.ruling.specs.Colregs.{Says, silent, says, clause, ownOvertakes, targetComesUp, targetOvertakes, isHeadOn, sideOf, encounterOf, keepsClear, rule13, rule18, rule12, rule19, sailingOn, byWindward, byTacks, decided, bySays, byGeometry, byRank, clausesInSight, clauses, permitted, forwardOfBeam, toStarboard, isOvertaking, starboardBy, portBy, starboardBy19, portBy19, portBy17, rulingFor, rulingOf}
+use Rattle.colregs.specs.declared.answer.Side.{Side}
+use Rattle.colregs.specs.declared.answer.Side.the-variants.{Port, Starboard}
+use Rattle.colregs.specs.declared.answer.Encounter.{Encounter}
+use Rattle.colregs.specs.declared.answer.Encounter.the-variants.{Overtaking, BeingOvertaken, HeadOn, Crossing}
+use Rattle.colregs.specs.declared.answer.Responsibility.{Responsibility}
+use Rattle.colregs.specs.declared.answer.Responsibility.the-variants.{GiveWay, StandOn, Both, Undetermined}
+use Rattle.colregs.specs.declared.answer.Rule.{Rule}
+use Rattle.colregs.specs.declared.answer.Rule.the-variants.{Rule12, Rule13, Rule14, Rule15, Rule17, Rule18, Rule19}
+use Rattle.colregs.specs.declared.answer.Decision.{Decision}
+use Rattle.colregs.specs.Colregs.{Says, silent, says, clause, ownOvertakes, targetComesUp, targetOvertakes, isHeadOn, sideOf, encounterOf, keepsClear, rule13, rule18, rule12, rule19, sailingOn, byWindward, byTacks, decided, bySays, byGeometry, byRank, clausesInSight, clauses, permitted, forwardOfBeam, toStarboard, isOvertaking, starboardBy, portBy, starboardBy19, portBy19, portBy17, rulingFor, rulingOf}
 use Rattle.ruling_laws.specs.Log.{sameSide, isKind, OneKind, speaks, someSpeaks, Row, row, rowOf, In, here, there, inSight, restricted}
 
 -- ---- exactly one kind
@@ -88,10 +89,6 @@ module _ (config : ColregsConfig) (f : Facts) where
   }
 
 -- ---- some rule speaks
-or-right : (a b : Bool) → T b → T (a || b)
-or-right true b h = tt
-or-right false b h = h
-
 pub the-rules-decide : (e : Encounter) (f : Facts) → T (someSpeaks (clauses e f))
 the-rules-decide e f = or-right (speaks (rule19 (f .visibility))) (someSpeaks (clausesInSight e f)) (go e)
   where

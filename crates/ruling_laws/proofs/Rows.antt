@@ -16,18 +16,18 @@ use Rattle.situation.specs.declared.party.Visibility.the-variants as Visibility
 use Rattle.situation.specs.declared.party.Situation.{Situation}
 use Rattle.situation.specs.declared.config.ColregsConfig.{ColregsConfig}
 use Rattle.situation.specs.Situation.{party, withHeading, situation, withWindFrom, standard}
-use Rattle.ruling.specs.declared.answer.Side.{Side}
-use Rattle.ruling.specs.declared.answer.Side.the-variants.{Port, Starboard}
-use Rattle.ruling.specs.declared.answer.Encounter.{Encounter}
-use Rattle.ruling.specs.declared.answer.Encounter.the-variants.{Overtaking, BeingOvertaken, HeadOn, Crossing}
-use Rattle.ruling.specs.declared.answer.Responsibility.{Responsibility}
-use Rattle.ruling.specs.declared.answer.Responsibility.the-variants.{GiveWay, StandOn, Both, Undetermined}
-use Rattle.ruling.specs.declared.answer.Rule.{Rule}
-use Rattle.ruling.specs.declared.answer.Ruling.{Ruling}
-use Rattle.ruling.specs.declared.answer.RulingAnswer.{RulingAnswer}
-use Rattle.ruling.specs.declared.answer.RulingAnswer.the-variants.{Of, Refused}
-use Rattle.ruling.specs.Ruling.{ruleNumber}
-use Rattle.ruling.specs.Colregs.{rulingAnswer}
+use Rattle.colregs.specs.declared.answer.Side.{Side}
+use Rattle.colregs.specs.declared.answer.Side.the-variants.{Port, Starboard}
+use Rattle.colregs.specs.declared.answer.Encounter.{Encounter}
+use Rattle.colregs.specs.declared.answer.Encounter.the-variants.{Overtaking, BeingOvertaken, HeadOn, Crossing}
+use Rattle.colregs.specs.declared.answer.Responsibility.{Responsibility}
+use Rattle.colregs.specs.declared.answer.Responsibility.the-variants.{GiveWay, StandOn, Both, Undetermined}
+use Rattle.colregs.specs.declared.answer.Rule.{Rule}
+use Rattle.colregs.specs.declared.answer.Ruling.{Ruling}
+use Rattle.colregs.specs.declared.answer.RulingAnswer.{RulingAnswer}
+use Rattle.colregs.specs.declared.answer.RulingAnswer.the-variants.{Of, Refused}
+use Rattle.colregs.specs.Ruling.{ruleNumber}
+use Rattle.colregs.specs.Colregs.{rulingAnswer}
 
 -- a computed figure and what it must be
 pub record Row : Type 0 where

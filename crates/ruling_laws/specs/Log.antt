@@ -6,16 +6,16 @@ use mathlib.Core.List.{List, [], _∷_}
 use lib.Ieee.{Float}
 use Rattle.situation.specs.declared.config.ColregsConfig.{ColregsConfig}
 use Rattle.situation.specs.declared.facts.Facts.{Facts}
-use Rattle.ruling.specs.declared.answer.Side.{Side}
-use Rattle.ruling.specs.declared.answer.Side.the-variants.{Port, Starboard}
-use Rattle.ruling.specs.declared.answer.Encounter.{Encounter}
-use Rattle.ruling.specs.declared.answer.Encounter.the-variants.{Overtaking, BeingOvertaken, HeadOn, Crossing}
-use Rattle.ruling.specs.declared.answer.Responsibility.{Responsibility}
-use Rattle.ruling.specs.declared.answer.Responsibility.the-variants.{GiveWay, StandOn, Both, Undetermined}
-use Rattle.ruling.specs.declared.answer.Rule.{Rule}
-use Rattle.ruling.specs.declared.answer.Rule.the-variants.{Rule12, Rule13, Rule14, Rule15, Rule17, Rule18, Rule19}
-use Rattle.ruling.specs.declared.answer.Ruling.{Ruling}
-use Rattle.ruling.specs.Colregs.{Says, silent, says, Clause, ownOvertakes, targetOvertakes, isHeadOn, sideOf, forwardOfBeam, toStarboard, isOvertaking}
+use Rattle.colregs.specs.declared.answer.Side.{Side}
+use Rattle.colregs.specs.declared.answer.Side.the-variants.{Port, Starboard}
+use Rattle.colregs.specs.declared.answer.Encounter.{Encounter}
+use Rattle.colregs.specs.declared.answer.Encounter.the-variants.{Overtaking, BeingOvertaken, HeadOn, Crossing}
+use Rattle.colregs.specs.declared.answer.Responsibility.{Responsibility}
+use Rattle.colregs.specs.declared.answer.Responsibility.the-variants.{GiveWay, StandOn, Both, Undetermined}
+use Rattle.colregs.specs.declared.answer.Rule.{Rule}
+use Rattle.colregs.specs.declared.answer.Rule.the-variants.{Rule12, Rule13, Rule14, Rule15, Rule17, Rule18, Rule19}
+use Rattle.colregs.specs.declared.answer.Ruling.{Ruling}
+use Rattle.colregs.specs.Colregs.{Says, silent, says, Clause, ownOvertakes, targetOvertakes, isHeadOn, sideOf, forwardOfBeam, toStarboard, isOvertaking}
 
 -- ---- exactly one kind of encounter
 abbrev pub sameSide : Side → Side → Bool

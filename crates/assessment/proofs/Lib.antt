@@ -1,0 +1,2 @@
+-- What the code of the assessment owes.
+pub mod Assessed

@@ -1,0 +1,21 @@
+use Rattle.assessment.specs.Assess.{bearingIn}
+use borrow.Author.Needs.{needs}
+use Rattle.assessment.proofs.assess.CollisionAssessment.bearing_at_cpa.Statement.{
+  statement,
+}
+use Rattle.assessment.proofs.assess.CollisionAssessment.bearing_at_cpa.Tie as tie
+
+enum-told : tie.Need-enum-told
+enum-told c = search needs
+
+enum-known-cpa : tie.Need-enum-known-cpa
+enum-known-cpa c = search needs
+
+returns : tie.Need-returns
+returns c = search needs
+
+returns-2 : tie.Need-returns-2
+returns-2 c = cc
+
+pub bearing-at-cpa-spec : {M : Type 1} → statement M
+bearing-at-cpa-spec = tie.close (tie.spec enum-told enum-known-cpa returns returns-2)

@@ -1,0 +1,3 @@
+-- The collision assessment.
+pub mod Assess
+pub mod Policy

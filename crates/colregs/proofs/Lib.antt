@@ -1,0 +1,2 @@
+-- What the code of the encounters owes.
+pub mod Encounters

@@ -1,0 +1,3 @@
+-- The rules, and what a ruling says.
+pub mod Colregs
+pub mod Ruling

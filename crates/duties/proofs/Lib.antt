@@ -1,0 +1,2 @@
+-- Who keeps out of the way.
+pub mod Duties

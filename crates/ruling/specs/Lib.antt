@@ -1,3 +1,0 @@
--- The ruling.
-pub mod Colregs
-pub mod Ruling

@@ -1,0 +1,3 @@
+-- Laws on the trial list.
+pub mod Climbing
+pub mod Listed

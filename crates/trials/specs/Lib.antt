@@ -1,0 +1,2 @@
+-- The trial list.
+pub mod Trials
