@@ -5,7 +5,7 @@ use lib.Ieee.{Float, lt, le}
 use Rattle.math.specs.Sign.{abs}
 use Rattle.angle.specs.Fold.{zero}
 use Rattle.situation.specs.declared.config.ColregsConfig.{ColregsConfig}
-use Rattle.situation.specs.declared.facts.Facts.{Facts}
+use Rattle.facts.specs.declared.Facts.{Facts}
 use Rattle.colregs.specs.declared.answer.Side.{Side}
 use Rattle.colregs.specs.declared.answer.Side.the-variants as Side
 use Rattle.colregs.specs.declared.answer.Encounter.the-variants.{Overtaking, BeingOvertaken, HeadOn, Crossing}

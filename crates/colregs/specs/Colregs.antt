@@ -16,9 +16,9 @@ use Rattle.situation.specs.declared.party.Visibility.{Visibility}
 use Rattle.situation.specs.declared.party.Visibility.the-variants.{InSight, Restricted}
 use Rattle.situation.specs.declared.party.Situation.{Situation}
 use Rattle.situation.specs.declared.config.ColregsConfig.{ColregsConfig}
-use Rattle.situation.specs.declared.facts.Windward.{Windward}
-use Rattle.situation.specs.declared.facts.Windward.the-variants as Windward
-use Rattle.situation.specs.declared.facts.Facts.{Facts}
+use Rattle.facts.specs.declared.Windward.{Windward}
+use Rattle.facts.specs.declared.Windward.the-variants as Windward
+use Rattle.facts.specs.declared.Facts.{Facts}
 use Rattle.colregs.specs.declared.answer.Side.{Side}
 use Rattle.colregs.specs.declared.answer.Side.the-variants as Side
 use Rattle.colregs.specs.declared.answer.Encounter.{Encounter}
@@ -32,8 +32,8 @@ use Rattle.colregs.specs.declared.answer.Ruling.{Ruling}
 use Rattle.colregs.specs.declared.answer.RulingAnswer.{RulingAnswer}
 use Rattle.colregs.specs.declared.answer.RulingAnswer.the-variants as RulingAnswer
 use Rattle.colregs.specs.declared.answer.Decision.{Decision}
-use Rattle.situation.specs.Facts.{quarterTurn, factsOf}
-use Rattle.situation.specs.Arguments.{situationChecks, configChecks}
+use Rattle.situation.specs.Arguments.{quarterTurn, situationChecks, configChecks}
+use Rattle.facts.specs.Facts.{factsOf}
 
 -- What a rule says of own craft's duty: nothing, where it does not apply.
 pub data Says : Type 0 where

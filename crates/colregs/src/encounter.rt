@@ -3,8 +3,8 @@ ghost use mathlib.Core.Path.{_≡_};
 ghost use Rattle.colregs.specs.Colregs as Spec;
 use crate::answer::Encounter;
 use crate::answer::Side;
+use facts::Facts;
 use situation::config::ColregsConfig;
-use situation::facts::Facts;
 
 // Nearer to the bow than this, in degrees, is dead ahead.
 const DEAD_AHEAD: f64 = 1e-9;

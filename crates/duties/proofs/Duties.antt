@@ -7,7 +7,7 @@ use lib.Dec.{ltb}
 use borrow.Author.Tests.{lt-ltb, le-ltb}
 use Rattle.situation.specs.declared.party.VesselCategory.{VesselCategory}
 use Rattle.situation.specs.declared.party.VesselCategory.the-variants.{PowerDriven, Sailing, Fishing, ConstrainedByDraught, RestrictedInAbilityToManoeuvre, NotUnderCommand}
-use Rattle.situation.specs.declared.facts.Windward.{Windward}
+use Rattle.facts.specs.declared.Windward.{Windward}
 use Rattle.colregs.specs.declared.answer.Encounter.{Encounter}
 use Rattle.colregs.specs.declared.answer.Responsibility.the-variants.{GiveWay, StandOn}
 use Rattle.colregs.specs.declared.answer.Rule.the-variants.{Rule12, Rule18}

@@ -8,8 +8,8 @@ use Rattle.arguments.specs.Check.{verdict}
 use Rattle.arguments.proofs.Checks.{verdict-joined}
 use Rattle.situation.specs.declared.party.Situation.{Situation}
 use Rattle.situation.specs.declared.config.ColregsConfig.{ColregsConfig}
-use Rattle.situation.specs.declared.facts.Facts.{Facts}
-use Rattle.situation.specs.Facts.{factsOf}
+use Rattle.facts.specs.declared.Facts.{Facts}
+use Rattle.facts.specs.Facts.{factsOf}
 use Rattle.situation.specs.Arguments.{situationChecks, configChecks}
 use Rattle.colregs.specs.declared.answer.Encounter.{Encounter}
 use Rattle.colregs.specs.declared.answer.Decision.{Decision}

@@ -11,10 +11,9 @@ use colregs::answer::Rule;
 use colregs::answer::Ruling;
 use colregs::answer::RulingAnswer;
 use colregs::encounter;
+use facts::Facts;
 use situation::check;
 use situation::config::ColregsConfig;
-use situation::facts;
-use situation::facts::Facts;
 use situation::party::Situation;
 
 fn is_stand_on(duty: Responsibility) -> bool

@@ -26,7 +26,7 @@ use Rattle.situation.specs.declared.party.Visibility.the-variants as Visibility
 use Rattle.situation.specs.declared.party.Situation.{Situation}
 use Rattle.situation.specs.declared.config.ColregsConfig.{ColregsConfig}
 use Rattle.situation.specs.Situation.{party, withHeading, heading, situation, withWindFrom}
-use Rattle.situation.specs.Facts.{relativeOf, aspectOf, larger, speedOf, rangeRate, isClosing, factsOf}
+use Rattle.facts.specs.Facts.{relativeOf, aspectOf, larger, speedOf, rangeRate, isClosing, factsOf}
 use Rattle.situation.specs.Arguments.{partyChecks, isWidth, situationChecks}
 use Rattle.colregs.specs.declared.answer.Side.the-variants.{Port, Starboard}
 use Rattle.colregs.specs.declared.answer.Encounter.the-variants.{Overtaking, BeingOvertaken, HeadOn, Crossing}

@@ -22,7 +22,7 @@ use Rattle.motion.specs.Vessel.{unit, resolved, velocity}
 use Rattle.situation.specs.declared.party.Tack.the-variants as Tack
 use Rattle.situation.specs.declared.party.VesselCategory.the-variants.{PowerDriven, Sailing, Fishing, ConstrainedByDraught, RestrictedInAbilityToManoeuvre, NotUnderCommand}
 use Rattle.situation.specs.Situation.{party, withHeading, heading, situation, withWindFrom}
-use Rattle.situation.specs.Facts.{relativeOf, aspectOf, larger, speedOf, rangeRate, isClosing, factsOf}
+use Rattle.facts.specs.Facts.{relativeOf, aspectOf, larger, speedOf, rangeRate, isClosing, factsOf}
 use Rattle.situation.specs.Arguments.{partyChecks, isWidth, situationChecks}
 use Rattle.colregs.specs.declared.answer.Side.the-variants.{Port, Starboard}
 use Rattle.colregs.specs.declared.answer.Encounter.the-variants.{Overtaking, BeingOvertaken, HeadOn, Crossing}

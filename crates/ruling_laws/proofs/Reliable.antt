@@ -12,10 +12,10 @@ use Rattle.situation.specs.declared.party.VesselCategory.{VesselCategory}
 use Rattle.situation.specs.declared.party.VesselCategory.the-variants.{PowerDriven, Sailing, Fishing, ConstrainedByDraught, RestrictedInAbilityToManoeuvre, NotUnderCommand}
 use Rattle.situation.specs.declared.party.Tack.{Tack}
 use Rattle.situation.specs.declared.party.Tack.the-variants as Tack
-use Rattle.situation.specs.declared.facts.Windward.{Windward}
-use Rattle.situation.specs.declared.facts.Windward.the-variants as Windward
+use Rattle.facts.specs.declared.Windward.{Windward}
+use Rattle.facts.specs.declared.Windward.the-variants as Windward
 use Rattle.situation.specs.declared.config.ColregsConfig.{ColregsConfig}
-use Rattle.situation.specs.declared.facts.Facts.{Facts}
+use Rattle.facts.specs.declared.Facts.{Facts}
 use Rattle.colregs.specs.declared.answer.Side.{Side}
 use Rattle.colregs.specs.declared.answer.Side.the-variants.{Port, Starboard}
 use Rattle.colregs.specs.declared.answer.Encounter.{Encounter}

@@ -5,7 +5,7 @@ use lib.Dec.{T}
 use mathlib.Core.List.{List, [], _∷_}
 use lib.Ieee.{Float}
 use Rattle.situation.specs.declared.config.ColregsConfig.{ColregsConfig}
-use Rattle.situation.specs.declared.facts.Facts.{Facts}
+use Rattle.facts.specs.declared.Facts.{Facts}
 use Rattle.colregs.specs.declared.answer.Side.{Side}
 use Rattle.colregs.specs.declared.answer.Side.the-variants.{Port, Starboard}
 use Rattle.colregs.specs.declared.answer.Encounter.{Encounter}

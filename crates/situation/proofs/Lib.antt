@@ -1,3 +1,2 @@
--- What the code owes.
+-- What the code of the checks owes.
 pub mod Checked
-pub mod Gathered

@@ -1,6 +1,7 @@
 -- The checks of a situation and of the widths (01, 'The answers by number': own, contact, target, wind, config; inside one in field order).
 use mathlib.Core.Bool.{Bool}
 use mathlib.Core.List.{List, [], _∷_, _++_}
+use lib.Ieee.{Float, binary64, ofBits}
 use Rattle.angle.specs.Fold.{zero}
 use Rattle.elementary.specs.declared.error.Refusal.the-variants as Why
 use Rattle.elementary.specs.Range.{inRange}
@@ -11,7 +12,10 @@ use Rattle.situation.specs.declared.party.Perhaps.the-variants as Perhap
 use Rattle.situation.specs.declared.party.Party.{Party}
 use Rattle.situation.specs.declared.party.Situation.{Situation}
 use Rattle.situation.specs.declared.config.ColregsConfig.{ColregsConfig}
-use Rattle.situation.specs.Facts.{quarterTurn}
+
+-- 90
+abbrev pub quarterTurn : Float
+quarterTurn = ofBits binary64 0x4056_8000_0000_0000
 
 abbrev pub perhapsChecks : Perhaps → List Check
 perhapsChecks Perhaps.Unknown = []

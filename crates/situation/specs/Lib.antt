@@ -1,4 +1,3 @@
--- Situations, the facts that the rules speak of, and the checks of arguments.
+-- Situations, and the checks of arguments.
 pub mod Arguments
-pub mod Facts
 pub mod Situation

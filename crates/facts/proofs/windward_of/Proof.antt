@@ -1,7 +1,7 @@
-use Rattle.situation.proofs.Gathered.{own-to-windward, target-to-windward}
+use Rattle.facts.proofs.Gathered.{own-to-windward, target-to-windward}
 use borrow.Author.Needs.{needs}
-use Rattle.situation.proofs.facts.windward_of.Statement.{statement}
-use Rattle.situation.proofs.facts.windward_of.Tie as tie
+use Rattle.facts.proofs.windward_of.Statement.{statement}
+use Rattle.facts.proofs.windward_of.Tie as tie
 
 enum-told : tie.Need-enum-told
 enum-told c = search needs

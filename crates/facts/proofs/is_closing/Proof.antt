@@ -1,8 +1,8 @@
-use Rattle.situation.proofs.Gathered.{closing-unless, not-closing}
-use Rattle.situation.specs.Facts.{isClosing}
+use Rattle.facts.proofs.Gathered.{closing-unless, not-closing}
+use Rattle.facts.specs.Facts.{isClosing}
 use borrow.Author.Needs.{needs}
-use Rattle.situation.proofs.facts.is_closing.Statement.{statement}
-use Rattle.situation.proofs.facts.is_closing.Tie as tie
+use Rattle.facts.proofs.is_closing.Statement.{statement}
+use Rattle.facts.proofs.is_closing.Tie as tie
 
 unit-requires : tie.Need-unit-requires
 unit-requires c κs = search needs

@@ -1,7 +1,7 @@
-use Rattle.situation.proofs.Gathered.{facts-are}
+use Rattle.facts.proofs.Gathered.{facts-are}
 use borrow.Author.Needs.{needs}
-use Rattle.situation.proofs.facts.facts_of.Statement.{statement}
-use Rattle.situation.proofs.facts.facts_of.Tie as tie
+use Rattle.facts.proofs.facts_of.Statement.{statement}
+use Rattle.facts.proofs.facts_of.Tie as tie
 
 heading-requires : tie.Need-heading-requires
 heading-requires c κs = search needs

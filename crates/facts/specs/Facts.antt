@@ -1,6 +1,6 @@
 -- The facts of a situation that the rules speak of, operation by operation (rules.rs, `geometry_of`, `is_closing`, and the wind in `sailing_vessels`). Angles are taken from the headings, closing from the motion.
 use mathlib.Core.Bool.{Bool, _&&_, not, cond}
-use lib.Ieee.{Float, binary64, lt, ofBits}
+use lib.Ieee.{Float, lt}
 use Rattle.laws.specs.Ops.{_⊕_, _⊖_, _⊗_}
 use Rattle.math.specs.Sign.{abs}
 use Rattle.math.specs.Test.{isEffectivelyZero}
@@ -11,19 +11,16 @@ use Rattle.motion.specs.declared.vessel.Vessel.{Vessel}
 use Rattle.motion.specs.declared.vessel.Contact.{Contact}
 use Rattle.motion.specs.declared.vessel.Components.{Components}
 use Rattle.motion.specs.Vessel.{unit, velocity}
 use Rattle.situation.specs.declared.party.VesselCategory.{VesselCategory}
 use Rattle.situation.specs.declared.party.Perhaps.{Perhaps}
 use Rattle.situation.specs.declared.party.Perhaps.the-variants as Perhaps
 use Rattle.situation.specs.declared.party.Visibility.{Visibility}
 use Rattle.situation.specs.declared.party.Situation.{Situation}
-use Rattle.situation.specs.declared.facts.Windward.{Windward}
-use Rattle.situation.specs.declared.facts.Windward.the-variants as Windward
-use Rattle.situation.specs.declared.facts.Facts.{Facts}
+use Rattle.facts.specs.declared.Windward.{Windward}
+use Rattle.facts.specs.declared.Windward.the-variants as Windward
+use Rattle.facts.specs.declared.Facts.{Facts}
 use Rattle.situation.specs.Situation.{heading}
-
--- 90
-abbrev pub quarterTurn : Float
-quarterTurn = ofBits binary64 0x4056_8000_0000_0000
+use Rattle.situation.specs.Arguments.{quarterTurn}
 
 -- the target off own bow, positive to starboard
 unfoldable pub relativeOf : Contact → Direction → Float

@@ -1,7 +1,7 @@
-use Rattle.situation.specs.Facts.{relativeOf}
+use Rattle.facts.specs.Facts.{relativeOf}
 use borrow.Author.Needs.{needs}
-use Rattle.situation.proofs.facts.relative_of.Statement.{statement}
-use Rattle.situation.proofs.facts.relative_of.Tie as tie
+use Rattle.facts.proofs.relative_of.Statement.{statement}
+use Rattle.facts.proofs.relative_of.Tie as tie
 
 wrap180-requires : tie.Need-wrap180-requires
 wrap180-requires c κs = search needs

@@ -1,7 +1,7 @@
-use Rattle.situation.specs.Facts.{larger}
+use Rattle.facts.specs.Facts.{larger}
 use mathlib.Core.Path.{refl}
-use Rattle.situation.proofs.facts.larger.Statement.{statement}
-use Rattle.situation.proofs.facts.larger.Tie as tie
+use Rattle.facts.proofs.larger.Statement.{statement}
+use Rattle.facts.proofs.larger.Tie as tie
 
 returns : tie.Need-returns
 unfolding larger

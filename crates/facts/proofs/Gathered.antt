@@ -11,14 +11,15 @@ use Rattle.motion.specs.declared.vessel.Vessel.{Vessel}
 use Rattle.motion.specs.declared.vessel.Contact.{Contact}
 use Rattle.motion.specs.declared.vessel.Components.{Components}
 use Rattle.motion.specs.Vessel.{unit, velocity}
 use Rattle.situation.specs.declared.party.Perhaps.{Perhaps}
 use Rattle.situation.specs.declared.party.Perhaps.the-variants as Perhaps
 use Rattle.situation.specs.declared.party.Situation.{Situation}
-use Rattle.situation.specs.declared.facts.Windward.{Windward}
-use Rattle.situation.specs.declared.facts.Windward.the-variants as Windward
-use Rattle.situation.specs.declared.facts.Facts.{Facts}
+use Rattle.facts.specs.declared.Windward.{Windward}
+use Rattle.facts.specs.declared.Windward.the-variants as Windward
+use Rattle.facts.specs.declared.Facts.{Facts}
 use Rattle.situation.specs.Situation.{heading}
-use Rattle.situation.specs.Facts.{quarterTurn, relativeOf, aspectOf, larger, speedOf, rangeRate, isClosing, windwardOf, factsOf}
+use Rattle.situation.specs.Arguments.{quarterTurn}
+use Rattle.facts.specs.Facts.{relativeOf, aspectOf, larger, speedOf, rangeRate, isClosing, windwardOf, factsOf}
 
 module _ (contact : Contact) (wind : Perhaps) (from : Direction) (is : wind ≡ Perhaps.Known from) (folded size : Float) (f : folded ≡ halfFold (contact .bearing .0 ⊖ (from .0 ⊕ halfTurn))) (s : size ≡ abs folded) where
   pub own-to-windward : lt size quarterTurn ≡ true → Windward.Own ≡ windwardOf contact wind

@@ -1,16 +1,16 @@
 // The facts of a situation that the rules speak of.
 ghost use mathlib.Core.Path.{_≡_};
-ghost use Rattle.situation.specs.Facts as Spec;
-use crate::party::Perhaps;
-use crate::party::Situation;
-use crate::party::VesselCategory;
-use crate::party::Visibility;
+ghost use Rattle.facts.specs.Facts as Spec;
 use motion::units::Direction;
 use motion::units::Speed;
 use motion::vessel;
 use motion::vessel::Components;
 use motion::vessel::Contact;
 use motion::vessel::Vessel;
+use situation::party::Perhaps;
+use situation::party::Situation;
+use situation::party::VesselCategory;
+use situation::party::Visibility;
 
 // Which of two sailing vessels is to windward of the other.
 pub enum Windward {

@@ -1,7 +1,7 @@
-use Rattle.situation.specs.Facts.{speedOf}
+use Rattle.facts.specs.Facts.{speedOf}
 use borrow.Author.Needs.{needs}
-use Rattle.situation.proofs.facts.speed_of.Statement.{statement}
-use Rattle.situation.proofs.facts.speed_of.Tie as tie
+use Rattle.facts.proofs.speed_of.Statement.{statement}
+use Rattle.facts.proofs.speed_of.Tie as tie
 
 hypot-requires : tie.Need-hypot-requires
 hypot-requires c κs = search needs

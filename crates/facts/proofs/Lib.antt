@@ -1,0 +1,2 @@
+-- What the code of the facts owes.
+pub mod Gathered

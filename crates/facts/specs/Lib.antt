@@ -1,0 +1,2 @@
+-- The facts of a situation.
+pub mod Facts
