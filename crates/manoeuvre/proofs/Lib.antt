@@ -1,0 +1,2 @@
+-- What the code of constraints and manoeuvres owes.
+pub mod Constrained

@@ -1,0 +1,3 @@
+-- Constraints and manoeuvres.
+pub mod Constraints
+pub mod Manoeuvre
