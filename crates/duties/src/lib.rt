@@ -143,15 +143,17 @@ fn in_sight(
     ensures { λ r. ⌜ r ≡ Spec.bySays (Spec.rule13 e) Rule.Rule13 (Spec.decided (Spec.byRank e own target windward)) ⌝ }
 {
     let rest = by_rank(e, own, target, windward);
+    let overtakes = Decision {
+        responsibility: Responsibility::GiveWay,
+        rule: Rule::Rule13,
+    };
+    let overtaken = Decision {
+        responsibility: Responsibility::StandOn,
+        rule: Rule::Rule13,
+    };
     match e {
-        Encounter::Overtaking => Decision {
-            responsibility: Responsibility::GiveWay,
-            rule: Rule::Rule13,
-        },
-        Encounter::BeingOvertaken => Decision {
-            responsibility: Responsibility::StandOn,
-            rule: Rule::Rule13,
-        },
+        Encounter::Overtaking => overtakes,
+        Encounter::BeingOvertaken => overtaken,
         Encounter::HeadOn => rest,
         Encounter::Crossing { target_on } => rest,
     }

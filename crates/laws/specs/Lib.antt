@@ -2,5 +2,6 @@
 pub mod Fold
 pub mod Ops
 pub mod Rounding
+pub mod Rows
 pub mod Size
 pub mod Units

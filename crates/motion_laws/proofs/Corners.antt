@@ -1,10 +1,10 @@
 -- Document 01's marked corners of relative_motion.rs, as rows that are computed from the definitions.
 use mathlib.Core.Path.{_≡_, refl}
-use mathlib.Core.Bool.{Bool, true, _&&_}
+use mathlib.Core.Bool.{true}
 use mathlib.Core.List.{List, [], _∷_}
 use Prim.Native.Nat.{ℕ, _+_}
-use lib.Dec.{eqb}
 use lib.Ieee.{binary64, ofBits, ofInt, round, add, sub, mul, div, neg, rem, lt, le, eq, size}
+use Rattle.laws.specs.Rows.{Row, row, every}
 use Rattle.laws.specs.Units.{unitsOf}
 use Rattle.math.specs.Convert.{degreesPerRadian, toRadians, toDegrees}
 use Rattle.math.specs.Sign.{abs}
@@ -39,18 +39,6 @@ use Rattle.relative_motion.specs.Approach.{timeToGo, relativeSpeed, closingRate
 use Rattle.relative_motion.specs.Bow.{notNegative, determinant, crossing, bowAnswer, bowNumber}
 use Rattle.plot.specs.Plot.{relativeMotion, targetOf, solution, solved, plotChecks, plotVerdict, plotAnswer, plotNumber}
 use Rattle.course.specs.Course.{clamped, grazing, offered, atSpeed, along, choiceOf, avoidanceOf, courseFor, courseAnswer, courseNumber}
-
--- a computed figure and what it must be
-pub record Row : Type 0 where
-  pub got : ℕ
-  pub wanted : ℕ
-
-abbrev row : ℕ → ℕ → Row
-row got wanted = record { got = got; wanted = wanted }
-
-abbrev pub every : List Row → Bool
-every [] = true
-every (r ∷ rs) = eqb (r .got) (r .wanted) && every rs
 
 -- ---- arguments, as bit patterns
 abbrev vessel : ℕ → ℕ → Vessel

@@ -4,6 +4,7 @@ use mathlib.Core.Bool.{true, false}
 use mathlib.Core.List.{List, [], _∷_}
 use Prim.Native.Nat.{ℕ}
 use lib.Ieee.{binary64, ofBits, ofInt, round, add, sub, mul, div, neg, rem, lt, le, eq, size}
+use Rattle.laws.specs.Rows.{Row, every}
 use Rattle.laws.specs.Units.{unitsOf}
 use Rattle.math.specs.Convert.{degreesPerRadian, toRadians, toDegrees}
 use Rattle.math.specs.Sign.{abs}
@@ -33,7 +34,7 @@ use Rattle.colregs.specs.declared.answer.Encounter.the-variants.{Overtaking, Be
 use Rattle.colregs.specs.declared.answer.Responsibility.the-variants.{GiveWay, StandOn, Both}
 use Rattle.colregs.specs.declared.answer.Rule.the-variants.{Rule13, Rule14, Rule15, Rule17, Rule19}
 use Rattle.colregs.specs.Colregs.{abaft, ownComesUp, targetComesUp, ownOvertakes, targetOvertakes, isHeadOn, sideOf, rule18, encounterOf, decided, forwardOfBeam, starboardBy19, portBy19, portBy17, permitted, rulingFor, rulingOf, rulingAnswer}
-use Rattle.ruling_laws.proofs.Rows.{Row, every, number, power, heads, vessel, contact, seen, unseen, wind, rules, refuses}
+use Rattle.ruling_laws.proofs.Rows.{number, power, heads, vessel, contact, seen, unseen, wind, rules, refuses}
 
 -- a power-driven vessel on a course by its bits; a situation with a bearing by its bits
 abbrev on : ℕ → ℕ → Party

@@ -3,6 +3,7 @@ use mathlib.Core.Path.{_≡_, refl}
 use mathlib.Core.Bool.{true, false}
 use mathlib.Core.List.{List, [], _∷_}
 use lib.Ieee.{binary64, ofBits, ofInt, round, add, sub, mul, div, neg, rem, lt, le, eq, size}
+use Rattle.laws.specs.Rows.{Row, every}
 use Rattle.laws.specs.Units.{unitsOf}
 use Rattle.math.specs.Convert.{degreesPerRadian, toRadians, toDegrees}
 use Rattle.math.specs.Sign.{abs}
@@ -29,7 +30,7 @@ use Rattle.colregs.specs.declared.answer.Encounter.the-variants.{Overtaking, Be
 use Rattle.colregs.specs.declared.answer.Responsibility.the-variants.{GiveWay, StandOn, Both, Undetermined}
 use Rattle.colregs.specs.declared.answer.Rule.the-variants.{Rule12, Rule13, Rule14, Rule15, Rule17, Rule18, Rule19}
 use Rattle.colregs.specs.Colregs.{abaft, ownComesUp, targetComesUp, ownOvertakes, targetOvertakes, isHeadOn, sideOf, rule18, encounterOf, decided, forwardOfBeam, starboardBy19, portBy19, portBy17, permitted, rulingFor, rulingOf, rulingAnswer}
-use Rattle.ruling_laws.proofs.Rows.{Row, every, a, power, heads, vessel, seen, unseen, wind, rules}
+use Rattle.ruling_laws.proofs.Rows.{a, power, heads, vessel, seen, unseen, wind, rules}
 
 unfoldable pub departures : List Row
 departures =

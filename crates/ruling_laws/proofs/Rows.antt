@@ -1,10 +1,9 @@
 -- Rows of a table of rulings: a situation, and what the ruling on it must be.
-use mathlib.Core.Bool.{Bool, true, false, _&&_}
-use mathlib.Core.List.{List, [], _∷_}
+use mathlib.Core.Bool.{Bool, true, false}
 use Prim.Native.Nat.{ℕ, _+_, _*_}
-use lib.Dec.{eqb}
 use lib.IntN.{pos}
 use lib.Ieee.{Float, binary64, ofBits, ofInt}
+use Rattle.laws.specs.Rows.{Row, row}
 use Rattle.elementary.specs.Refusal.{numberOf}
 use Rattle.motion.specs.declared.units.Direction.{Direction}
 use Rattle.motion.specs.declared.vessel.Vessel.{Vessel}
@@ -28,15 +27,6 @@ use Rattle.colregs.specs.declared.answer.RulingAnswer.{RulingAnswer}
 use Rattle.colregs.specs.declared.answer.RulingAnswer.the-variants.{Of, Refused}
 use Rattle.colregs.specs.Ruling.{ruleNumber}
 use Rattle.colregs.specs.Colregs.{rulingAnswer}
-
--- a computed figure and what it must be
-pub record Row : Type 0 where
-  pub got : ℕ
-  pub wanted : ℕ
-
-abbrev pub every : List Row → Bool
-every [] = true
-every (r ∷ rs) = eqb (r .got) (r .wanted) && every rs
 
 -- ---- situations, in whole degrees, knots and nautical miles
 abbrev pub number : ℕ → Float
@@ -97,7 +87,7 @@ codeOf (Of r) = code (r .encounter) (r .responsibility) (r .rule) (r .manoeuvre 
 codeOf (Refused why) = numberOf why
 
 abbrev pub rules : Situation → Encounter → Responsibility → Rule → Bool → Bool → Row
-rules s e duty rule starboard port = record { got = codeOf (rulingAnswer s standard); wanted = code e duty rule starboard port }
+rules s e duty rule starboard port = row (codeOf (rulingAnswer s standard)) (code e duty rule starboard port)
 
 abbrev pub refuses : Situation → ColregsConfig → ℕ → Row
-refuses s config number = record { got = codeOf (rulingAnswer s config); wanted = number }
+refuses s config wanted = row (codeOf (rulingAnswer s config)) wanted

@@ -1,0 +1,2 @@
+-- Laws on assessment and avoidance.
+pub mod Corners

@@ -1,0 +1,1 @@
+// Laws on assessment and avoidance: their corners. There is no code.
