@@ -5,6 +5,7 @@ pub mod Compare
 pub mod Error
 pub mod Exact
 pub mod Fold
+pub mod Members
 pub mod Numbers
 pub mod Order
 pub mod Pattern

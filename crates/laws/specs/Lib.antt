@@ -1,4 +1,5 @@
 -- The relations and functions that the laws speak of.
+pub mod Ascending
 pub mod Fold
 pub mod Ops
 pub mod Rounding

@@ -1,24 +1,24 @@
 -- On accepted arguments nothing on the way to a closest point of approach is NaN or infinite, each elementary function is called inside its domain, and the time fits.
 use mathlib.Core.Path.{_≡_, refl, sym, ap, _∙_, subst}
-use mathlib.Core.Bool.{Bool, true, false, _||_, cond, true≢false}
+use mathlib.Core.Bool.{Bool, true, false, not, _||_, cond, true≢false}
 use Prim.Native.Nat.{ℕ, zero, suc, _+_, _*_, _^_, _≤_, _<_}
-use native.Mathlib.Nat.{le-trans, le-of-eq, lt-of-lt-of-le, lt-of-le-of-lt, mul-le-mul, le-of-mul-le-mul-right, mul-pos, mul-one, le-refl}
+use native.Mathlib.Nat.{le-trans, le-of-eq, lt-of-lt-of-le, lt-of-le-of-lt, mul-le-mul, mul-le-mul-left, le-of-mul-le-mul-right, mul-pos, mul-one, zero-mul, le-refl}
 use native.Mathlib.Omega.{arith}
-use lib.Dec.{T, ltb, lt→ltb, lit<, lit≤}
+use lib.Dec.{T, ltb, eqb, lt→ltb, eqb→eq, lit<, lit≤}
 use lib.Pow.{pow-pos, pow-mono}
 use lib.Ieee.{Float, binary64, fits, mul, neg, lt, le, unlike, below, level, ofBits}
 use lib.Ieee.Bits.{is-true}
-use lib.Ieee.Fits.{and-i}
+use lib.Ieee.Fits.{and-l, and-i}
 use lib.Ieee.Scale.{finite}
 use Rattle.laws.specs.Ops.{_⊕_, _⊖_, _⊗_, _⊘_}
 use Rattle.laws.specs.Size.{Small, AtLeast, Times}
 use Rattle.laws.specs.Units.{Units, sign, unitsOf}
-use Rattle.laws.proofs.Bools.{test-of-le}
+use Rattle.laws.proofs.Bools.{holds, test-of-le}
 use Rattle.laws.proofs.Compare.{lt-units, le-units, le-values}
-use Rattle.laws.proofs.Error.{Product, product}
+use Rattle.laws.proofs.Error.{Product, product, Rounded, quotient}
 use Rattle.laws.proofs.Ratio.{mul-times, add-times, neg-times}
 use Rattle.laws.proofs.Size.{units-small, weaken, round-small, mul-small, mul-least, add-small, sub-small, neg-small, div-small, least-of-test, small-of-value}
-use Rattle.laws.proofs.Units.{Form, form, own-units, div-units, finite-of-units}
+use Rattle.laws.proofs.Units.{Form, form, own-units, div-units, neg-units, finite-of-units}
 use Rattle.angle.specs.Fold.{wholeFold, IsDirection}
 use Rattle.angle.proofs.Range.{whole-fold-range}
 use Rattle.time.specs.Clock.{secondsPerHour, clock, nanosIn, fromSeconds, fromHours}
@@ -52,20 +52,31 @@ use Rattle.arguments.specs.Check as Check
 use Rattle.relative_motion.specs.Approach.{stationaryKnots, timeToGo, relativeSpeed, closingRate, timeOf, closest, approachFrom, approach, cpaBy, cpaAnswer, passingOfAnswer, passingAnswer, bearingBy, bearingAnswer}
 use Rattle.motion_laws.proofs.Sizes.{Sized, all-good, direction-small, distance-small, degrees-small, direction-domain, unit-small, sized}
 
+-- what has its sign set is at most 0
+at-most : (n : ℕ) → below true (n * 1) false (0 * 2 ^ 1074) || level true (n * 1) false (0 * 2 ^ 1074) ≡ true
+at-most zero = refl
+at-most (suc n) = ap (λ b. b || level true (suc n * 1) false (0 * 2 ^ 1074)) (is-true (ltb 0 (suc n * 1 + 0)) (lt→ltb 0 (suc n * 1 + 0) (positive n)))
+  where
+    positive : (n : ℕ) → 0 < suc n * 1 + 0
+    positive n = omega arith
+
+negative : (x : Float) (n : ℕ) → Units x true n → le x Check.zero ≡ true
+negative x n u = le-values x Check.zero true false n (2 ^ 1074) 0 1 (pow-pos 1074) (lit< tt) u (unfold ofBits in (refl, refl)) ∙ at-most n
+
 -- what is not at most 0 has its sign clear
 pub clear : (x : Float) → T (fits binary64 x) → T (finite x) → le x Check.zero ≡ false → sign x ≡ false
 clear x t f h = go (sign x) refl
   where
     go : (s : Bool) → sign x ≡ s → s ≡ false
     go false e = refl
-    go true e = absurd (true≢false (sym (at-most (unitsOf x)) ∙ sym (le-values x Check.zero true false (unitsOf x) (2 ^ 1074) 0 1 (pow-pos 1074) (lit< tt) (subst (λ s. Units x s (unitsOf x)) e (own-units x t f)) (unfold ofBits in (refl, refl))) ∙ h))
-      where
-        at-most : (n : ℕ) → below true (n * 1) false (0 * 2 ^ 1074) || level true (n * 1) false (0 * 2 ^ 1074) ≡ true
-        at-most zero = refl
-        at-most (suc n) = ap (λ b. b || level true (suc n * 1) false (0 * 2 ^ 1074)) (is-true (ltb 0 (suc n * 1 + 0)) (lt→ltb 0 (suc n * 1 + 0) (positive n)))
-          where
-            positive : (n : ℕ) → 0 < suc n * 1 + 0
-            positive n = omega arith
+    go true e = absurd (true≢false (sym (negative x (unitsOf x) (subst (λ s. Units x s (unitsOf x)) e (own-units x t f))) ∙ h))
+
+-- a set sign and at least 0: it is 0
+minus-zero : (x : Float) (n : ℕ) → Units x true n → le Check.zero x ≡ true → n ≡ 0
+minus-zero x n u h = none n (sym (le-values Check.zero x false true 0 1 n (2 ^ 1074) (lit< tt) (pow-pos 1074) (unfold ofBits in (refl, refl)) u) ∙ h)
+  where
+    none : (n : ℕ) → below false (0 * 2 ^ 1074) true (n * 1) || level false (0 * 2 ^ 1074) true (n * 1) ≡ true → n ≡ 0
+    none n k = sym (mul-one n) ∙ sym (eqb→eq (0 * 2 ^ 1074) (n * 1) (and-l (eqb (0 * 2 ^ 1074) (n * 1)) _ (holds k))) ∙ zero-mul (2 ^ 1074)
 
 module _ (position relative : Components) (a : Sized position relative) where
   abbrev speed : Float
@@ -100,6 +111,53 @@ module _ (position relative : Components) (a : Sized position relative) where
     pub time-small : Small 86 0 (timeOf position relative)
     unfolding timeOf
     time-small = div-small {p = 26} {q = 0} {r = 0} {t = 60} (lit≤ tt) (lit< tt) (neg-small rate-small) square-least
+
+    -- a rate that is not closing gives a time of at most 0
+    pub not-closing : le Check.zero (closingRate position relative) ≡ true → le (timeOf position relative) Check.zero ≡ true
+    unfolding timeOf
+    not-closing h = go (sign rate) refl
+      where
+        rate : Float
+        rate = closingRate position relative
+
+        square : Float
+        square = mul binary64 speed speed
+
+        square-units : Units square false (unitsOf square)
+        square-units =
+            let p = product speed speed false false units units speed-units speed-units (le-trans (mul-le-mul (le-trans (le-of-eq (sym (mul-one units))) (speed-small .most)) (le-trans (le-of-eq (sym (mul-one units))) (speed-small .most))) (lit≤ tt)) in
+            subst (λ s. Units square s (unitsOf square)) (finite-of-units square false (p .size) (p .value) .1) (own-units square (square-least .held) (square-least .number))
+
+        some : (b U : ℕ) → 0 < U → 2 ^ 0 * U ≤ b * 2 ^ 60 → 0 < b
+        some zero U P k = absurd (never U P k)
+          where
+            never : (U : ℕ) → 0 < U → 2 ^ 0 * U ≤ 0 * 2 ^ 60 → ⊥
+            never U P k = omega arith
+        some (suc b) U P k = omega arith
+
+        room : (a b U w : ℕ) → 2 ^ 86 ≤ w → a * 2 ^ 0 ≤ 2 ^ 26 * U → 2 ^ 0 * U ≤ b * 2 ^ 60 → a ≤ b * w
+        room a b U w v p q = le-trans (narrow p q) (mul-le-mul-left b v)
+          where
+            narrow : a * 2 ^ 0 ≤ 2 ^ 26 * U → 2 ^ 0 * U ≤ b * 2 ^ 60 → a ≤ b * 2 ^ 86
+            narrow p q = omega arith
+
+        divided : (s : Bool) → Units rate s (unitsOf rate) → Rounded (neg rate ⊘ square) (unlike (not s) false) (unitsOf rate) (unitsOf square)
+        divided s u = quotient (neg rate) square (not s) false (unitsOf rate) (unitsOf square) (some (unitsOf square) (2 ^ 1074) (pow-pos 1074) (square-least .least)) (neg-units rate s (unitsOf rate) u) square-units (room (unitsOf rate) (unitsOf square) (2 ^ 1074) (2 ^ 1023) (lit≤ tt) (rate-small .most) (square-least .least))
+
+        nothing : (g c : ℕ) → 0 < c → 2 * (2 ^ 53 * (g * c)) ≤ 2 * (2 ^ 53 + 1) * (0 * 2 ^ 1074) + 2 ^ 53 * c → g ≡ 0
+        nothing zero c C k = refl
+        nothing (suc g) c C k = absurd (never (g * c) c C (subst (λ z. 2 * (2 ^ 53 * (suc g * c)) ≤ 2 * (2 ^ 53 + 1) * z + 2 ^ 53 * c) (zero-mul (2 ^ 1074)) k))
+          where
+            never : (q c : ℕ) → 0 < c → 2 * (2 ^ 53 * (suc g * c)) ≤ 2 * (2 ^ 53 + 1) * 0 + 2 ^ 53 * c → ⊥
+            never q c C k = omega arith
+
+        go : (s : Bool) → sign rate ≡ s → le (neg rate ⊘ square) Check.zero ≡ true
+        go false e = let o = divided false (subst (λ s. Units rate s (unitsOf rate)) e (units-small rate-small)) in negative (neg rate ⊘ square) (o .size) (o .value)
+        go true e =
+            let u = subst (λ s. Units rate s (unitsOf rate)) e (units-small rate-small) in
+            let o = divided true u in
+            let z = nothing (o .size) (unitsOf square) (some (unitsOf square) (2 ^ 1074) (pow-pos 1074) (square-least .least)) (subst (λ a. 2 * (2 ^ 53 * (o .size * unitsOf square)) ≤ 2 * (2 ^ 53 + 1) * (a * 2 ^ 1074) + 2 ^ 53 * unitsOf square) (minus-zero rate (unitsOf rate) u h) (o .close .over)) in
+            le-units (neg rate ⊘ square) Check.zero (o .size) 0 (o .value) (unfold ofBits in (refl, refl)) ∙ ap (λ n. ltb n 0 || eqb n 0) z
 
     pub closest-small : Small 98 0 (closest position relative .north) × Small 98 0 (closest position relative .east)
     unfolding closest

@@ -10,7 +10,7 @@ use arguments::Verdict;
 use elementary::error::Refusal;
 use motion::units::Angle;
 
-fn check_perhaps(p: Perhaps, rest: Verdict) -> Verdict
+pub fn check_perhaps(p: Perhaps, rest: Verdict) -> Verdict
     ensures { λ r. ⌜ r ≡ Check.verdict (Spec.perhapsChecks p) rest ⌝ }
 {
     match p {
@@ -19,7 +19,7 @@ fn check_perhaps(p: Perhaps, rest: Verdict) -> Verdict
     }
 }
 
-fn check_party(p: Party, rest: Verdict) -> Verdict
+pub fn check_party(p: Party, rest: Verdict) -> Verdict
     ensures { λ r. ⌜ r ≡ Check.verdict (Spec.partyChecks p) rest ⌝ }
 {
     let motion = p.motion;

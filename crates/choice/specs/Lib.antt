@@ -1,0 +1,2 @@
+-- The smallest trial that clears.
+pub mod Choice

@@ -1,0 +1,3 @@
+-- What the code of clearing owes, and its laws.
+pub mod Loop
+pub mod Steps

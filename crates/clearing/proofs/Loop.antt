@@ -1,0 +1,73 @@
+-- The loop over the contacts: each turn joins one more of those that are left, and one that blocks decides.
+use mathlib.Core.Path.{_≡_, refl, sym, ap, _∙_, subst}
+use mathlib.Core.Bool.{Bool, true, false, not, true≢false}
+use mathlib.Core.List.{List, [], _∷_, map}
+use Prim.Native.Nat.{ℕ, suc, _+_, _≤_, _<_, min}
+use native.Mathlib.Nat.{le-of-lt}
+use native.Mathlib.Numerals.{add-one}
+use native.Mathlib.Omega.{arith}
+use lib.Dec.{T, ltb, ltb→lt, nltb→le}
+use lib.ListN.{length, getD, take}
+use lib.Seq.{slice, slice-cons, slice-empty, take-all}
+use Rattle.clearing.specs.declared.Passage.{Passage}
+use Rattle.clearing.specs.declared.Passage.the-variants.{Blocked, At}
+use Rattle.clearing.specs.declared.Tally.{Tally}
+use Rattle.clearing.specs.declared.Tally.the-variants.{Stopped, Free, Least}
+use Rattle.clearing.specs.declared.Clearance.{Clearance}
+use Rattle.clearing.specs.declared.Clearance.the-variants.{No}
+use Rattle.clearing.specs.Clearing.{join, tally, cleared, clearing, isStopped}
+
+-- one that blocks decides
+pub stays-stopped : (place : ℕ) (ps : List Passage) → tally place Stopped ps ≡ Stopped
+unfolding tally join
+stays-stopped place [] = refl
+stays-stopped place (Blocked ∷ ps) = stays-stopped (suc place) ps
+stays-stopped place (At d ∷ ps) = stays-stopped (suc place) ps
+
+is-stopped : (t : Tally) → isStopped t ≡ true → t ≡ Stopped
+is-stopped Stopped h = refl
+is-stopped Free h = absurd (true≢false (sym h))
+is-stopped (Least l) h = absurd (true≢false (sym h))
+
+-- a count beyond the list takes it whole
+pub take-held : {A : Type 0} (n : ℕ) (l : List A) → take (min n (length l)) l ≡ take n l
+take-held n l = go (ltb n (length l)) refl
+  where
+    less : n < length l → min n (length l) ≡ n
+    less h = omega arith
+
+    more : length l ≤ n → min n (length l) ≡ length l
+    more h = omega arith
+
+    all : length l ≤ length l
+    all = omega arith
+
+    go : (b : Bool) → ltb n (length l) ≡ b → take (min n (length l)) l ≡ take n l
+    go true e = ap (λ k. take k l) (less (ltb→lt n (length l) (subst T (sym e) tt)))
+    go false e = let k = nltb→le n (length l) (subst (λ t. T (not t)) (sym e) tt) in ap (λ k. take k l) (more k) ∙ take-all (length l) l all ∙ sym (take-all n l k)
+
+-- a count cut at the room fits the room
+pub fits : (n count room len : ℕ) → n ≡ min count room → len ≡ room → n ≤ len
+fits n count room len is full = omega arith
+
+module _ {A : Type 0} (f : A → Passage) (l : List A) (n : ℕ) where
+  -- what is still to be joined, from i on
+  abbrev pub left : ℕ → Tally → Tally
+  left i t = tally i t (map f (slice i n l))
+
+  pub step : (i : ℕ) (t next : Tally) (p : Passage) (d : A) → i < n → n ≤ length l → p ≡ f (getD l i d) → next ≡ join t i p → left (i + 1) next ≡ left i t
+  unfolding tally
+  step i t next p d h k e q = rw (add-one, slice-cons i n l d h k) (ap (λ t. tally (suc i) t (map f (slice (suc i) n l))) (q ∙ ap (join t i) e))
+
+  pub done : (i : ℕ) (t : Tally) → i ≡ n → left i t ≡ t
+  unfolding tally
+  done i t e = rw (e, slice-empty n l) refl
+
+  pub stopped : (i : ℕ) (t : Tally) → isStopped t ≡ true → left i t ≡ Stopped
+  stopped i t h = ap (left i) (is-stopped t h) ∙ stays-stopped i (map f (slice i n l))
+
+  -- the contacts of a count beyond the room are those of the room
+  module _ (count room : ℕ) (is : n ≡ min count room) (full : length l ≡ room) where
+    pub whole : cleared (left 0 Free) ≡ clearing (map f (take count l))
+    unfolding clearing
+    whole = ap (λ k. cleared (tally 0 Free (map f (take k l)))) (is ∙ ap (min count) (sym full)) ∙ ap (λ xs. cleared (tally 0 Free (map f xs))) (take-held count l)

@@ -1,0 +1,2 @@
+-- Whether the traffic is clear on a course.
+pub mod Clearing

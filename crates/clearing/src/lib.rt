@@ -1,0 +1,183 @@
+// Whether the traffic is clear on a course (avoidance.rs, `clears`): the distance of the contact that passes closest, and its place in
+// the list, unless a contact closes under the distance that is wanted.
+//
+// A contact's offset and velocity are worked out once (`Moving`), own craft's velocity once for each course. specs/Clearing.antt has
+// the plain definition, by `closest_point_of_approach`, and beside it what is computed here; proofs/Prepared.antt says that they agree.
+ghost use mathlib.Core.Path.{_≡_};
+ghost use Prim.Native.Nat.{min};
+ghost use Rattle.clearing.specs.Clearing as Spec;
+use manoeuvre::answer::Limiting;
+use motion::units::Distance;
+use motion::vessel;
+use motion::vessel::Components;
+use motion::vessel::Contact;
+use motion::vessel::Vessel;
+use relative_motion::approach;
+use relative_motion::approach::Pass;
+
+// The room for contacts.
+pub const MAX_CONTACTS: usize = 32;
+
+// A target as the search sees it: where it is and how it moves.
+pub struct Target {
+    pub contact: Contact,
+    pub vessel: Vessel,
+}
+
+// The same by its range, and by the north and east parts of its offset and its velocity.
+pub struct Moving {
+    pub range: Distance,
+    pub offset: Components,
+    pub velocity: Components,
+}
+
+// The first `count` of the list.
+pub struct Scene {
+    pub count: usize,
+    pub list: [Moving; MAX_CONTACTS],
+}
+
+// What one contact does to a course: it closes under the distance that is wanted, or passes at a distance.
+pub enum Passage {
+    Blocked,
+    At(Distance),
+}
+
+// The least passing distance, and whose it is.
+pub struct Passing {
+    pub distance: Distance,
+    pub limiting: Limiting,
+}
+
+// What the contacts so far come to: one blocks the course; there are none; the first that passes closest.
+pub enum Tally {
+    Stopped,
+    Free,
+    Least(Passing),
+}
+
+pub enum Clearance {
+    No,
+    Yes(Passing),
+}
+
+// A target's parts, worked out.
+pub fn moving_of(target: Target) -> Moving
+    ensures { λ r. ⌜ r ≡ Spec.moving target ⌝ }
+{
+    let contact = target.contact;
+    let vessel = target.vessel;
+    let range = contact.range;
+    let offset = contact.offset();
+    let velocity = vessel.velocity();
+    Moving {
+        range: range,
+        offset: offset,
+        velocity: velocity,
+    }
+}
+
+fn passed(pass: Pass, floor: f64) -> Passage
+    ensures { λ r. ⌜ r ≡ Spec.passed floor pass ⌝ }
+{
+    match pass {
+        Pass::Closing(d) => {
+            if d.0 < floor {
+                return Passage::Blocked;
+            }
+            Passage::At(d)
+        }
+        Pass::Opening(range) => Passage::At(range),
+        Pass::Stationary(range) => Passage::At(range),
+    }
+}
+
+// A contact that does not close passes at its range, and costs no root and no division.
+fn passage_of(own: Components, m: Moving, floor: f64) -> Passage
+    ensures { λ r. ⌜ r ≡ Spec.passageAt own floor m ⌝ }
+{
+    let range = m.range;
+    let offset = m.offset;
+    let velocity = m.velocity;
+    let relative = vessel::difference(velocity, own);
+    let rate = offset.north * relative.north + offset.east * relative.east;
+    if rate >= 0.0 {
+        return Passage::At(range);
+    }
+    passed(approach::passing_from(range, offset, relative), floor)
+}
+
+fn joined(tally: Tally, place: usize, p: Passage) -> Tally
+    ensures { λ r. ⌜ r ≡ Spec.join tally place p ⌝ }
+{
+    match p {
+        Passage::Blocked => Tally::Stopped,
+        Passage::At(d) => {
+            let next = Passing {
+                distance: d,
+                limiting: Limiting::Contact(place),
+            };
+            match tally {
+                Tally::Stopped => Tally::Stopped,
+                Tally::Free => Tally::Least(next),
+                Tally::Least(least) => {
+                    if d.0 < least.distance.0 {
+                        return Tally::Least(next);
+                    }
+                    Tally::Least(least)
+                }
+            }
+        }
+    }
+}
+
+fn is_stopped(tally: Tally) -> bool
+    ensures { λ r. ⌜ r ≡ Spec.isStopped tally ⌝ }
+{
+    match tally {
+        Tally::Stopped => true,
+        Tally::Free => false,
+        Tally::Least(least) => false,
+    }
+}
+
+fn cleared(tally: Tally) -> Clearance
+    ensures { λ r. ⌜ r ≡ Spec.cleared tally ⌝ }
+{
+    match tally {
+        Tally::Stopped => Clearance::No,
+        Tally::Free => Clearance::Yes(Passing {
+            distance: Distance(1.7976931348623157e308),
+            limiting: Limiting::Nobody,
+        }),
+        Tally::Least(least) => Clearance::Yes(least),
+    }
+}
+
+// A count, at most the room.
+pub fn held(count: usize) -> usize
+    ensures { λ r. ⌜ r ≡ min count Spec.maxContacts ⌝ }
+{
+    if count < MAX_CONTACTS {
+        return count;
+    }
+    MAX_CONTACTS
+}
+
+// With own craft at a velocity, whether no contact of the scene closes under `floor`.
+pub fn clears(own: Components, scene: Scene, floor: f64) -> Clearance
+    ensures { λ r. ⌜ r ≡ Spec.clearsAt own floor (Spec.movings scene) ⌝ }
+{
+    let count = held(scene.count);
+    let mut tally = Tally::Free;
+    let mut i: usize = 0;
+    while i < count {
+        let m = scene.list[i];
+        tally = joined(tally, i, passage_of(own, m, floor));
+        if is_stopped(tally) {
+            return Clearance::No;
+        }
+        i += 1;
+    }
+    cleared(tally)
+}

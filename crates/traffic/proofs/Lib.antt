@@ -1,0 +1,2 @@
+-- What the code of the traffic owes.
+pub mod Loops

@@ -1,0 +1,2 @@
+-- The traffic.
+pub mod Traffic
