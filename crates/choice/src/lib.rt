@@ -79,7 +79,11 @@ pub fn try_side(
 {
     if permitted {
         let v = altered(own, signed(side, magnitude));
-        return chosen_if(side, magnitude, clearing::clears(v.velocity(), scene, floor));
+        return chosen_if(
+            side,
+            magnitude,
+            clearing::clears(v.velocity(), scene, floor),
+        );
     }
     Choice::Nothing
 }

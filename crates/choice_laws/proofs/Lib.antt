@@ -1,5 +1,7 @@
 -- Laws on clearing and choice.
+pub mod Chosen
 pub mod First
 pub mod Passages
 pub mod Prepared
+pub mod Searched
 pub mod Smallest

@@ -1,5 +1,6 @@
 -- The traffic as a list, and its checks (01, 'The answers by number': 'the order count of contacts, own, contact …; a list goes entry by entry, contact then target').
 use mathlib.Core.List.{List, [], _∷_, _++_, map}
+use Prim.Native.Nat.{ℕ}
 use lib.ListN.{take}
 use lib.Dec.{leb}
 use lib.Ieee.{binary64, ofBits}
@@ -25,8 +26,8 @@ abbrev pub nowhere : Moving
 nowhere = record { range = record { 0 = zero }; offset = record { north = zero; east = zero }; velocity = record { north = zero; east = zero } }
 
 -- ---- the checks
-abbrev pub countChecks : Traffic → List Check
-countChecks t = check (leb (t .count) maxContacts) Why.TooManyContacts ∷ []
+abbrev pub countChecks : ℕ → List Check
+countChecks count = check (leb count maxContacts) Why.TooManyContacts ∷ []
 
 unfoldable pub entryChecks : Entry → List Check
 entryChecks e = contactChecks (e .contact) ++ partyChecks (e .target)

@@ -88,10 +88,10 @@ pub fn scene_of(t: Traffic) -> Scene
 }
 
 // More than MAX_CONTACTS are refused.
-pub fn check_count(t: Traffic, rest: Verdict) -> Verdict
-    ensures { λ r. ⌜ r ≡ Check.verdict (Spec.countChecks t) rest ⌝ }
+pub fn check_count(count: usize, rest: Verdict) -> Verdict
+    ensures { λ r. ⌜ r ≡ Check.verdict (Spec.countChecks count) rest ⌝ }
 {
-    arguments::unless(t.count <= MAX_CONTACTS, Refusal::TooManyContacts, rest)
+    arguments::unless(count <= MAX_CONTACTS, Refusal::TooManyContacts, rest)
 }
 
 fn check_entry(e: Entry, rest: Verdict) -> Verdict

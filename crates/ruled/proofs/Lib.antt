@@ -1,0 +1,3 @@
+-- What the code of the ruled search owes.
+pub mod Held
+pub mod Steps

@@ -1,0 +1,134 @@
+-- What it means that the checks of the ruled search accept its arguments: own craft, every contact and the limits of the trials are fit, and every contact has a ruling.
+use mathlib.Core.Path.{_≡_, refl, sym, ap, _∙_, subst}
+use mathlib.Core.Bool.{_&&_}
+use mathlib.Core.Logic.{⊎-elim}
+use mathlib.Core.List.{List, [], _∷_, _++_, map, List·Memᴰ, List·Memᴰ·cases-cons, List·Memᴰ·not-nil, Memᴰ·of-map}
+use Prim.Native.Nat.{ℕ}
+use lib.Dec.{T}
+use lib.Ieee.{Float, le, ofBits, binary64}
+use lib.Ieee.Fits.{and-l, and-r}
+use Rattle.elementary.specs.Range.{inRange}
+use Rattle.motion.specs.declared.units.Distance.{Distance}
+use Rattle.motion.specs.declared.vessel.Vessel.{Vessel}
+use Rattle.arguments.specs.declared.Verdict.the-variants as Verdict
+use Rattle.arguments.specs.Check.{Check, zero, verdict, vesselChecks, contactChecks, distanceChecks}
+use Rattle.situation.specs.declared.party.Party.{Party}
+use Rattle.situation.specs.declared.party.Perhaps.{Perhaps}
+use Rattle.situation.specs.declared.party.Visibility.{Visibility}
+use Rattle.situation.specs.Situation.{standard}
+use Rattle.situation.specs.Arguments.{perhapsChecks, partyChecks, isWidth, configChecks, situationChecks}
+use Rattle.facts.specs.Facts.{factsOf}
+use Rattle.colregs.specs.declared.answer.Ruling.{Ruling}
+use Rattle.colregs.specs.declared.answer.RulingAnswer.the-variants as RulingAnswer
+use Rattle.colregs.specs.Colregs.{rulingOf, rulingBy, rulingAnswer}
+use Rattle.manoeuvre.specs.declared.constraints.ManoeuvreConstraints.{ManoeuvreConstraints}
+use Rattle.manoeuvre.specs.Constraints.{reversal, alterationChecks, rateChecks, constraintChecks}
+use Rattle.trials.specs.Trials.{Limits}
+use Rattle.clearing.specs.declared.Target.{Target}
+use Rattle.traffic.specs.declared.Entry.{Entry}
+use Rattle.traffic.specs.Traffic.{targetOf, countChecks, entryChecks, contactsChecks}
+use Rattle.motion_laws.specs.Sound.{HeldVessel, AllGood}
+use Rattle.motion_laws.proofs.Sizes.{all-good}
+use Rattle.choice_laws.specs.Fit.{FitVessel, FitContact, FitTarget, FitTargets}
+use Rattle.choice_laws.proofs.Prepared.{accepted}
+use Rattle.rulings.specs.Ruled.{situationOf, ruledChecks}
+use Rattle.ruled_laws.specs.Held.{HeldEntry, HeldArguments}
+
+-- ---- checks of joined lists
+pub good-front : (a b : List Check) → AllGood (a ++ b) → AllGood a
+good-front [] b g = tt
+good-front (c ∷ a) b g = (g .0, good-front a b (g .1))
+
+pub good-back : (a b : List Check) → AllGood (a ++ b) → AllGood b
+good-back [] b g = g
+good-back (c ∷ a) b g = good-back a b (g .1)
+
+pub good-both : (a b : List Check) → AllGood a → AllGood b → AllGood (a ++ b)
+good-both [] b g h = h
+good-both (c ∷ a) b g h = (g .0, good-both a b (g .1) h)
+
+-- ---- the standard widths, one vessel, one contact
+widths : AllGood (configChecks standard)
+unfolding isWidth inRange le ofBits
+widths = (tt, (tt, tt))
+
+vessel-fit : (v : Vessel) → HeldVessel v → AllGood (vesselChecks v) → FitVessel v
+vessel-fit v h g = record { held = h; course = g .0; speed = g .1 .0 }
+
+party-vessel : (p : Party) → AllGood (partyChecks p) → AllGood (vesselChecks (p .motion))
+unfolding partyChecks
+party-vessel p g = good-front (vesselChecks (p .motion)) (perhapsChecks (p .heading)) g
+
+entry-good : (entries : List Entry) → AllGood (contactsChecks entries) → (e : Entry) → List·Memᴰ e entries → AllGood (entryChecks e)
+unfolding contactsChecks
+entry-good [] g e m = absurd (List·Memᴰ·not-nil m)
+entry-good (x ∷ entries) g e m = ⊎-elim (λ is. subst (λ z. AllGood (entryChecks z)) (sym is) (good-front (entryChecks x) (contactsChecks entries) g)) (λ r. entry-good entries (good-back (entryChecks x) (contactsChecks entries) g) e r) (List·Memᴰ·cases-cons m)
+
+module _ (own : Party) (count : ℕ) (entries : List Entry) (wind : Perhaps) (desired : Distance) (c : ManoeuvreConstraints) (h : verdict (ruledChecks own count entries wind desired c) Verdict.Accepted ≡ Verdict.Accepted) where
+  -- the checks from desired on, from wind on, from the contacts on
+  abbrev from-desired : List Check
+  from-desired = distanceChecks desired ++ constraintChecks c
+
+  abbrev from-wind : List Check
+  from-wind = perhapsChecks wind ++ from-desired
+
+  abbrev from-contacts : List Check
+  from-contacts = contactsChecks entries ++ from-wind
+
+  after-count : AllGood (partyChecks own ++ from-contacts)
+  unfolding ruledChecks
+  after-count = good-back (countChecks count) (partyChecks own ++ from-contacts) (all-good (ruledChecks own count entries wind desired c) h)
+
+  own-good : AllGood (partyChecks own)
+  own-good = good-front (partyChecks own) from-contacts after-count
+
+  after-own : AllGood from-contacts
+  after-own = good-back (partyChecks own) from-contacts after-count
+
+  each-good : (e : Entry) → List·Memᴰ e entries → AllGood (contactChecks (e .contact)) × AllGood (partyChecks (e .target))
+  unfolding entryChecks
+  each-good e m = let g = entry-good entries (good-front (contactsChecks entries) from-wind after-own) e m in (good-front (contactChecks (e .contact)) (partyChecks (e .target)) g, good-back (contactChecks (e .contact)) (partyChecks (e .target)) g)
+
+  after-contacts : AllGood from-wind
+  after-contacts = good-back (contactsChecks entries) from-wind after-own
+
+  limits-good : AllGood (alterationChecks (c .«least_alteration») (c .«most_alteration»))
+  unfolding constraintChecks
+  limits-good = good-front (alterationChecks (c .«least_alteration») (c .«most_alteration»)) (rateChecks (c .«rate_of_turn»)) (good-back (distanceChecks desired) (constraintChecks c) (good-back (perhapsChecks wind) from-desired after-contacts))
+
+  -- every contact has a ruling
+  pub ruled : (visibility : Visibility) (e : Entry) → List·Memᴰ e entries → rulingAnswer (situationOf own visibility wind e) standard ≡ RulingAnswer.Of (rulingOf standard (factsOf (situationOf own visibility wind e)))
+  unfolding rulingAnswer situationChecks
+  ruled visibility e m =
+      let g = each-good e m in
+      ap (λ v. rulingBy v (rulingOf standard (factsOf (situationOf own visibility wind e))))
+      (accepted (situationChecks (situationOf own visibility wind e) ++ configChecks standard)
+      (good-both (situationChecks (situationOf own visibility wind e)) (configChecks standard)
+      (good-both (partyChecks own) (contactChecks (e .contact) ++ (partyChecks (e .target) ++ perhapsChecks wind)) own-good
+      (good-both (contactChecks (e .contact)) (partyChecks (e .target) ++ perhapsChecks wind) (g .0)
+      (good-both (partyChecks (e .target)) (perhapsChecks wind) (g .1) (good-front (perhapsChecks wind) from-desired after-contacts))))
+      widths))
+
+  module _ (k : HeldArguments own entries c) where
+    pub own-fit : FitVessel (own .motion)
+    own-fit = vessel-fit (own .motion) (k .vessel) (party-vessel own own-good)
+
+    pub entry-fit : (e : Entry) → List·Memᴰ e entries → FitTarget (targetOf e)
+    unfolding targetOf
+    entry-fit e m = let g = each-good e m in record {
+      contact = record { held = k .each e m .contact; bearing = g .0 .0; range = g .0 .1 .0 };
+      vessel = vessel-fit (e .target .motion) (k .each e m .vessel) (party-vessel (e .target) (g .1));
+    }
+
+    pub targets-fit : FitTargets (map targetOf entries)
+    targets-fit t m = let u = Memᴰ·of-map targetOf entries m in subst FitTarget (u .2) (entry-fit (u .0) (u .1))
+
+    pub limits : Limits (c .«least_alteration» .0) (c .«most_alteration» .0)
+    unfolding inRange
+    limits = record {
+      least-fits = k .least;
+      most-fits = k .most;
+      not-negative = and-l (le zero (c .«least_alteration» .0)) (le (c .«least_alteration» .0) reversal) (limits-good .0);
+      ordered = and-l (le (c .«least_alteration» .0) (c .«most_alteration» .0)) (le (c .«most_alteration» .0) reversal) (limits-good .1 .0);
+      at-most = and-r (le (c .«least_alteration» .0) (c .«most_alteration» .0)) (le (c .«most_alteration» .0) reversal) (limits-good .1 .0);
+    }

@@ -1,0 +1,2 @@
+-- What the code of the shared sides owes.
+pub mod Sides
