@@ -1,4 +1,5 @@
 -- Laws on clearing and choice.
+pub mod Accepting
 pub mod Chosen
 pub mod First
 pub mod Passages

@@ -1,17 +1,14 @@
 -- What it means that the checks of the ruled search accept its arguments: own craft, every contact and the limits of the trials are fit, and every contact has a ruling.
 use mathlib.Core.Path.{_≡_, refl, sym, ap, _∙_, subst}
-use mathlib.Core.Bool.{_&&_}
 use mathlib.Core.Logic.{⊎-elim}
 use mathlib.Core.List.{List, [], _∷_, _++_, map, List·Memᴰ, List·Memᴰ·cases-cons, List·Memᴰ·not-nil, Memᴰ·of-map}
 use Prim.Native.Nat.{ℕ}
 use lib.Dec.{T}
-use lib.Ieee.{Float, le, ofBits, binary64}
-use lib.Ieee.Fits.{and-l, and-r}
+use lib.Ieee.{le, ofBits}
 use Rattle.elementary.specs.Range.{inRange}
 use Rattle.motion.specs.declared.units.Distance.{Distance}
-use Rattle.motion.specs.declared.vessel.Vessel.{Vessel}
 use Rattle.arguments.specs.declared.Verdict.the-variants as Verdict
-use Rattle.arguments.specs.Check.{Check, zero, verdict, vesselChecks, contactChecks, distanceChecks}
+use Rattle.arguments.specs.Check.{Check, verdict, vesselChecks, contactChecks, distanceChecks}
 use Rattle.situation.specs.declared.party.Party.{Party}
 use Rattle.situation.specs.declared.party.Perhaps.{Perhaps}
 use Rattle.situation.specs.declared.party.Visibility.{Visibility}
@@ -22,38 +19,23 @@ use Rattle.colregs.specs.declared.answer.Ruling.{Ruling}
 use Rattle.colregs.specs.declared.answer.RulingAnswer.the-variants as RulingAnswer
 use Rattle.colregs.specs.Colregs.{rulingOf, rulingBy, rulingAnswer}
 use Rattle.manoeuvre.specs.declared.constraints.ManoeuvreConstraints.{ManoeuvreConstraints}
-use Rattle.manoeuvre.specs.Constraints.{reversal, alterationChecks, rateChecks, constraintChecks}
+use Rattle.manoeuvre.specs.Constraints.{constraintChecks}
 use Rattle.trials.specs.Trials.{Limits}
 use Rattle.clearing.specs.declared.Target.{Target}
 use Rattle.traffic.specs.declared.Entry.{Entry}
 use Rattle.traffic.specs.Traffic.{targetOf, countChecks, entryChecks, contactsChecks}
-use Rattle.motion_laws.specs.Sound.{HeldVessel, AllGood}
+use Rattle.motion_laws.specs.Sound.{AllGood}
 use Rattle.motion_laws.proofs.Sizes.{all-good}
 use Rattle.choice_laws.specs.Fit.{FitVessel, FitContact, FitTarget, FitTargets}
+use Rattle.choice_laws.proofs.Accepting.{good-front, good-back, good-both, vessel-fit, limits-fit}
 use Rattle.choice_laws.proofs.Prepared.{accepted}
 use Rattle.rulings.specs.Ruled.{situationOf, ruledChecks}
 use Rattle.ruled_laws.specs.Held.{HeldEntry, HeldArguments}
-
--- ---- checks of joined lists
-pub good-front : (a b : List Check) → AllGood (a ++ b) → AllGood a
-good-front [] b g = tt
-good-front (c ∷ a) b g = (g .0, good-front a b (g .1))
-
-pub good-back : (a b : List Check) → AllGood (a ++ b) → AllGood b
-good-back [] b g = g
-good-back (c ∷ a) b g = good-back a b (g .1)
-
-pub good-both : (a b : List Check) → AllGood a → AllGood b → AllGood (a ++ b)
-good-both [] b g h = h
-good-both (c ∷ a) b g h = (g .0, good-both a b (g .1) h)
 
 -- ---- the standard widths, one vessel, one contact
 widths : AllGood (configChecks standard)
 unfolding isWidth inRange le ofBits
 widths = (tt, (tt, tt))
-
-vessel-fit : (v : Vessel) → HeldVessel v → AllGood (vesselChecks v) → FitVessel v
-vessel-fit v h g = record { held = h; course = g .0; speed = g .1 .0 }
 
 party-vessel : (p : Party) → AllGood (partyChecks p) → AllGood (vesselChecks (p .motion))
 unfolding partyChecks
@@ -92,10 +74,6 @@ module _ (own : Party) (count : ℕ) (entries : List Entry) (wind : Perhaps) (de
   after-contacts : AllGood from-wind
   after-contacts = good-back (contactsChecks entries) from-wind after-own
 
-  limits-good : AllGood (alterationChecks (c .«least_alteration») (c .«most_alteration»))
-  unfolding constraintChecks
-  limits-good = good-front (alterationChecks (c .«least_alteration») (c .«most_alteration»)) (rateChecks (c .«rate_of_turn»)) (good-back (distanceChecks desired) (constraintChecks c) (good-back (perhapsChecks wind) from-desired after-contacts))
-
   -- every contact has a ruling
   pub ruled : (visibility : Visibility) (e : Entry) → List·Memᴰ e entries → rulingAnswer (situationOf own visibility wind e) standard ≡ RulingAnswer.Of (rulingOf standard (factsOf (situationOf own visibility wind e)))
   unfolding rulingAnswer situationChecks
@@ -124,11 +102,4 @@ module _ (own : Party) (count : ℕ) (entries : List Entry) (wind : Perhaps) (de
     targets-fit t m = let u = Memᴰ·of-map targetOf entries m in subst FitTarget (u .2) (entry-fit (u .0) (u .1))
 
     pub limits : Limits (c .«least_alteration» .0) (c .«most_alteration» .0)
-    unfolding inRange
-    limits = record {
-      least-fits = k .least;
-      most-fits = k .most;
-      not-negative = and-l (le zero (c .«least_alteration» .0)) (le (c .«least_alteration» .0) reversal) (limits-good .0);
-      ordered = and-l (le (c .«least_alteration» .0) (c .«most_alteration» .0)) (le (c .«most_alteration» .0) reversal) (limits-good .1 .0);
-      at-most = and-r (le (c .«least_alteration» .0) (c .«most_alteration» .0)) (le (c .«most_alteration» .0) reversal) (limits-good .1 .0);
-    }
+    limits = limits-fit c (k .least) (k .most) (good-back (distanceChecks desired) (constraintChecks c) (good-back (perhapsChecks wind) from-desired after-contacts))

@@ -1,0 +1,2 @@
+-- The avoidance of one contact.
+pub mod Avoid
