@@ -1,0 +1,3 @@
+-- What the exports of avoidance owe.
+pub mod Filling
+pub mod Made

@@ -1,0 +1,50 @@
+-- Constraints that are made with a rate of turn, and the ruled search with constraints that were made.
+use mathlib.Core.Path.{_≡_, refl, sym, ap, _∙_}
+use mathlib.Core.Bool.{true, false, cond}
+use mathlib.Core.List.{List}
+use Prim.Native.Nat.{ℕ, _/_, _%_}
+use lib.Dec.{eqb}
+use lib.Ieee.{Float}
+use Rattle.elementary.specs.declared.error.Refusal.{Refusal}
+use Rattle.manoeuvre.specs.declared.constraints.PermittedSides.{PermittedSides}
+use Rattle.manoeuvre.specs.declared.constraints.ManoeuvreConstraints.{ManoeuvreConstraints}
+use Rattle.manoeuvre.specs.declared.constraints.ConstraintsAnswer.{ConstraintsAnswer}
+use Rattle.manoeuvre.specs.declared.constraints.ConstraintsAnswer.the-variants as Constraints
+use Rattle.manoeuvre.specs.Constraints.{constraintsAnswer, withRateOfTurn}
+use Rattle.motion.specs.declared.units.Distance.{Distance}
+use Rattle.situation.specs.declared.party.Party.{Party}
+use Rattle.situation.specs.declared.party.Perhaps.{Perhaps}
+use Rattle.situation.specs.declared.party.Visibility.{Visibility}
+use Rattle.traffic.specs.declared.Entry.{Entry}
+use Rattle.rulings.specs.declared.RuledAnswer.{RuledAnswer}
+use Rattle.rulings.specs.Ruled.{ruledAnswer}
+use Rattle.words.specs.Words as Words
+use Rattle.exports_avoidance.specs.Words.{permittedSides, withRate, constraintsOf, at, entries, ruledWords, ruledWith}
+
+module _ (sides : ℕ) (least most : Float) (known : ℕ) (rate : Float) (p : PermittedSides) (made : ConstraintsAnswer) where
+  of : p ≡ permittedSides sides → made ≡ constraintsAnswer p (record { 0 = least }) (record { 0 = most }) → eqb known 0 ≡ false → withRate made rate ≡ constraintsOf sides least most known rate
+  unfolding constraintsOf
+  of ep em h = ap (λ a. withRate a rate) (em ∙ ap (λ p. constraintsAnswer p (record { 0 = least }) (record { 0 = most })) ep) ∙ ap (λ b. cond b (constraintsAnswer (permittedSides sides) (record { 0 = least }) (record { 0 = most })) (withRate (constraintsAnswer (permittedSides sides) (record { 0 = least }) (record { 0 = most })) rate)) (sym h)
+
+  pub by-rate : (c : ManoeuvreConstraints) (r : ConstraintsAnswer) → p ≡ permittedSides sides → made ≡ constraintsAnswer p (record { 0 = least }) (record { 0 = most }) → eqb known 0 ≡ false → made ≡ Constraints.Of c → r ≡ withRateOfTurn c (record { 0 = rate }) → r ≡ constraintsOf sides least most known rate
+  by-rate c r ep em h e er = er ∙ ap (λ a. withRate a rate) (sym e) ∙ of ep em h
+
+  pub not-made : (why : Refusal) → p ≡ permittedSides sides → made ≡ constraintsAnswer p (record { 0 = least }) (record { 0 = most }) → eqb known 0 ≡ false → made ≡ Constraints.Refused why → Constraints.Refused why ≡ constraintsOf sides least most known rate
+  not-made why ep em h e = ap (λ a. withRate a rate) (sym e) ∙ of ep em h
+
+-- ---- the ruled search
+module _ (codes count : ℕ) (floats : List Float) (a : ConstraintsAnswer) (c : ManoeuvreConstraints) (is : a ≡ Constraints.Of c) where
+  pub own-is : (own : Party) (f g h : Float) → own ≡ Words.party (codes % 8) (codes / 16 % 2) f g h → f ≡ at floats 0 → g ≡ at floats 1 → h ≡ at floats 2 → own ≡ Words.party (codes % 8) (codes / 16 % 2) (at floats 0) (at floats 1) (at floats 2)
+  own-is own f g h e ef eg eh = e ∙ ap (λ f. Words.party (codes % 8) (codes / 16 % 2) f g h) ef ∙ ap (λ g. Words.party (codes % 8) (codes / 16 % 2) (at floats 0) g h) eg ∙ ap (λ h. Words.party (codes % 8) (codes / 16 % 2) (at floats 0) (at floats 1) h) eh
+
+  pub ruled-is : (own : Party) (n : ℕ) (es : List Entry) (v : Visibility) (w : Perhaps) (f d : Float) (r : RuledAnswer) (words : List ℕ)
+      → own ≡ Words.party (codes % 8) (codes / 16 % 2) (at floats 0) (at floats 1) (at floats 2) → n ≡ count → es ≡ entries true floats count → v ≡ Words.visibility (codes / 8 % 2) → w ≡ Words.perhaps (codes / 32 % 2) f → f ≡ at floats 3 → d ≡ at floats 4
+      → r ≡ ruledAnswer own n es v w (record { 0 = d }) c → words ≡ ruledWords r → words ≡ ruledWith a codes count floats
+  ruled-is own n es v w f d r words eo en ee ev ew ef ed er e =
+      e ∙ ap ruledWords (er ∙ ap (λ o. ruledAnswer o n es v w (record { 0 = d }) c) eo ∙ ap (λ n. ruledAnswer party n es v w (record { 0 = d }) c) en ∙ ap (λ l. ruledAnswer party count l v w (record { 0 = d }) c) ee
+      ∙ ap (λ v. ruledAnswer party count (entries true floats count) v w (record { 0 = d }) c) ev ∙ ap (λ w. ruledAnswer party count (entries true floats count) (Words.visibility (codes / 8 % 2)) w (record { 0 = d }) c) (ew ∙ ap (Words.perhaps (codes / 32 % 2)) ef)
+      ∙ ap (λ d. ruledAnswer party count (entries true floats count) (Words.visibility (codes / 8 % 2)) (Words.perhaps (codes / 32 % 2) (at floats 3)) (record { 0 = d }) c) ed)
+      ∙ ap (λ a. ruledWith a codes count floats) (sym is)
+    where
+      party : Party
+      party = Words.party (codes % 8) (codes / 16 % 2) (at floats 0) (at floats 1) (at floats 2)

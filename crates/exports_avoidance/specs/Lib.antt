@@ -1,0 +1,2 @@
+-- Answers and arguments of avoidance as the C exports have them.
+pub mod Words

@@ -1,0 +1,2 @@
+-- A fact on lists.
+pub mod Lists

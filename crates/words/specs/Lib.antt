@@ -1,0 +1,2 @@
+-- Values of the C exports.
+pub mod Words

@@ -1,0 +1,125 @@
+// Values as the C exports take and give them: bit patterns, codes and floats.
+ghost use mathlib.Core.Path.{_≡_};
+ghost use lib.ListN.{getD};
+ghost use Rattle.words.specs.Words as Spec;
+use motion::units::Direction;
+use motion::units::Distance;
+use motion::units::Speed;
+use motion::vessel::Contact;
+use motion::vessel::Vessel;
+use situation::party::Party;
+use situation::party::Perhaps;
+use situation::party::Tack;
+use situation::party::VesselCategory;
+use situation::party::Visibility;
+
+// The bits of a float; one pattern stands for every NaN.
+pub fn pattern(x: f64) -> u64
+    ensures { λ r. ⌜ r ≡ Spec.pattern x ⌝ }
+{
+    if x == x {
+        return f64::to_bits(x);
+    }
+    9221120237041090560
+}
+
+// A float of a list, 0 where there is none.
+pub fn float_at(floats: &[f64], i: usize) -> f64
+    ensures { λ r. ⌜ r ≡ getD (now (floats .entry)) i Spec.zero ⌝ }
+{
+    if i < floats.len() {
+        return floats[i];
+    }
+    0.0
+}
+
+// A word of a list of nine, 0 where there is none.
+pub fn word_at(words: [u64; 9], part: u32) -> u64
+    ensures { λ r. ⌜ r ≡ getD words part 0 ⌝ }
+{
+    if part < 9 {
+        let i = part as usize;
+        return words[i];
+    }
+    0
+}
+
+pub fn category(code: u32) -> VesselCategory
+    ensures { λ r. ⌜ r ≡ Spec.category code ⌝ }
+{
+    if code == 0 {
+        return VesselCategory::PowerDriven;
+    }
+    if code == 1 {
+        return VesselCategory::Sailing { tack: Tack::Port };
+    }
+    if code == 2 {
+        return VesselCategory::Sailing {
+            tack: Tack::Starboard,
+        };
+    }
+    if code == 3 {
+        return VesselCategory::Sailing {
+            tack: Tack::Unknown,
+        };
+    }
+    if code == 4 {
+        return VesselCategory::Fishing;
+    }
+    if code == 5 {
+        return VesselCategory::ConstrainedByDraught;
+    }
+    if code == 6 {
+        return VesselCategory::RestrictedInAbilityToManoeuvre;
+    }
+    VesselCategory::NotUnderCommand
+}
+
+pub fn visibility(code: u32) -> Visibility
+    ensures { λ r. ⌜ r ≡ Spec.visibility code ⌝ }
+{
+    if code == 0 {
+        return Visibility::InSight;
+    }
+    Visibility::Restricted
+}
+
+pub fn perhaps(known: u32, degrees: f64) -> Perhaps
+    ensures { λ r. ⌜ r ≡ Spec.perhaps known degrees ⌝ }
+{
+    if known == 0 {
+        return Perhaps::Unknown;
+    }
+    Perhaps::Known(Direction(degrees))
+}
+
+pub fn vessel(course: f64, speed: f64) -> Vessel
+    ensures { λ r. ⌜ r ≡ Spec.vessel course speed ⌝ }
+{
+    Vessel {
+        course: Direction(course),
+        speed: Speed(speed),
+    }
+}
+
+pub fn contact(bearing: f64, range: f64) -> Contact
+    ensures { λ r. ⌜ r ≡ Spec.contact bearing range ⌝ }
+{
+    Contact {
+        bearing: Direction(bearing),
+        range: Distance(range),
+    }
+}
+
+pub fn party(code: u32, known: u32, course: f64, speed: f64, heading: f64) -> Party
+    ensures { λ r. ⌜ r ≡ Spec.party code known course speed heading ⌝ }
+{
+    let motion = vessel(course, speed);
+    let heads = perhaps(known, heading);
+    let what = category(code);
+    Party {
+        motion: motion,
+        heading: heads,
+        category: what,
+    }
+}
