@@ -1,0 +1,2 @@
+-- Corners of the searches.
+pub mod Corners
