@@ -18,7 +18,7 @@ use Rattle.situation.specs.declared.party.Visibility.{Visibility}
 use Rattle.traffic.specs.declared.Entry.{Entry}
 use Rattle.rulings.specs.declared.RuledAnswer.{RuledAnswer}
 use Rattle.rulings.specs.Ruled.{ruledAnswer}
-use Rattle.words.specs.Words as Words
+use Rattle.codes.specs.Codes as Words
 use Rattle.exports_avoidance.specs.Words.{permittedSides, withRate, constraintsOf, at, entries, ruledWords, ruledWith}
 
 module _ (sides : ℕ) (least most : Float) (known : ℕ) (rate : Float) (p : PermittedSides) (made : ConstraintsAnswer) where

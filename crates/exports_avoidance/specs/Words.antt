@@ -33,8 +33,8 @@ use Rattle.avoid.specs.Avoid.{avoidAnswer}
 use Rattle.rulings.specs.declared.RuledAnswer.{RuledAnswer}
 use Rattle.rulings.specs.declared.RuledAnswer.the-variants as RuledAnswer
 use Rattle.rulings.specs.Ruled.{ruledAnswer}
-use Rattle.words.specs.Words as Words
-use Rattle.words.specs.Words.{pattern}
+use Rattle.codes.specs.Codes as Words
+use Rattle.codes.specs.Codes.{pattern}
 
 -- ---- answers
 abbrev pub sideWord : Side → ℕ

@@ -28,7 +28,7 @@ use rulings::RuledManoeuvre;
 use situation::party::Party;
 use traffic::Entry;
 use traffic::Traffic;
-use words::pattern;
+use codes::pattern;
 
 // ---- answers as words
 fn side_word(side: Side) -> u64
@@ -181,14 +181,14 @@ fn entry_at(floats: &[f64], at: usize) -> Entry
     requires { ⌜ at < 1000 ⌝ }
     ensures { λ r. ⌜ r ≡ Spec.entryAt (now (floats .entry)) at ⌝ }
 {
-    let code = math::to_usize(words::float_at(floats, at + 5)) % 16;
-    let contact = words::contact(words::float_at(floats, at), words::float_at(floats, at + 1));
-    let target = words::party(
+    let code = math::to_usize(codes::float_at(floats, at + 5)) % 16;
+    let contact = codes::contact(codes::float_at(floats, at), codes::float_at(floats, at + 1));
+    let target = codes::party(
         (code % 8) as u32,
         (code / 8) as u32,
-        words::float_at(floats, at + 2),
-        words::float_at(floats, at + 3),
-        words::float_at(floats, at + 4),
+        codes::float_at(floats, at + 2),
+        codes::float_at(floats, at + 3),
+        codes::float_at(floats, at + 4),
     );
     Entry {
         contact: contact,
@@ -247,17 +247,17 @@ pub extern "C" fn avoidance_avoid(
     ensures { λ r. ⌜ r ≡ getD (Spec.avoidWith (Spec.constraintsOf sides least most known rate) oc os bearing range tc ts desired) part 0 ⌝ }
 {
     match constraints_of(sides, least, most, known, rate) {
-        ConstraintsAnswer::Of(c) => words::word_at(
+        ConstraintsAnswer::Of(c) => codes::word_at(
             avoid_words(avoid::avoid(
-                words::vessel(oc, os),
-                words::contact(bearing, range),
-                words::vessel(tc, ts),
+                codes::vessel(oc, os),
+                codes::contact(bearing, range),
+                codes::vessel(tc, ts),
                 Distance(desired),
                 c,
             )),
             part,
         ),
-        ConstraintsAnswer::Refused(why) => words::word_at(refused(why), part),
+        ConstraintsAnswer::Refused(why) => codes::word_at(refused(why), part),
     }
 }
 
@@ -268,17 +268,17 @@ pub extern "C" fn avoidance_search(part: u32, sides: u32, count: usize, floats: 
 {
     let may = permitted_sides(sides);
     let found = choice::smallest(
-        words::vessel(words::float_at(floats, 0), words::float_at(floats, 1)),
+        codes::vessel(codes::float_at(floats, 0), codes::float_at(floats, 1)),
         traffic::scene_of(traffic_of(false, count, floats)),
-        words::float_at(floats, 2) - 1e-9,
+        codes::float_at(floats, 2) - 1e-9,
         Sides {
             starboard: may.starboard(),
             port: may.port(),
         },
-        words::float_at(floats, 3),
-        words::float_at(floats, 4),
+        codes::float_at(floats, 3),
+        codes::float_at(floats, 4),
     );
-    words::word_at(search_words(found), part)
+    codes::word_at(search_words(found), part)
 }
 
 // `codes`, from the low bits: own category (three), and one each for visibility, own heading, the wind and the rate of turn. `floats` has
@@ -288,26 +288,26 @@ pub extern "C" fn avoidance_ruled(part: u32, codes: u32, count: usize, floats: &
     ensures { λ r. ⌜ r ≡ getD (Spec.ruledWith (Spec.ruledConstraints codes (now (floats .entry))) codes count (now (floats .entry))) part 0 ⌝ }
 {
     let known = codes / 64 % 2;
-    let least = words::float_at(floats, 5);
-    let most = words::float_at(floats, 6);
-    match constraints_of(0, least, most, known, words::float_at(floats, 7)) {
-        ConstraintsAnswer::Of(c) => words::word_at(
+    let least = codes::float_at(floats, 5);
+    let most = codes::float_at(floats, 6);
+    match constraints_of(0, least, most, known, codes::float_at(floats, 7)) {
+        ConstraintsAnswer::Of(c) => codes::word_at(
             ruled_words(ruled::ruled_search(
-                words::party(
+                codes::party(
                     codes % 8,
                     codes / 16 % 2,
-                    words::float_at(floats, 0),
-                    words::float_at(floats, 1),
-                    words::float_at(floats, 2),
+                    codes::float_at(floats, 0),
+                    codes::float_at(floats, 1),
+                    codes::float_at(floats, 2),
                 ),
                 traffic_of(true, count, floats),
-                words::visibility(codes / 8 % 2),
-                words::perhaps(codes / 32 % 2, words::float_at(floats, 3)),
-                Distance(words::float_at(floats, 4)),
+                codes::visibility(codes / 8 % 2),
+                codes::perhaps(codes / 32 % 2, codes::float_at(floats, 3)),
+                Distance(codes::float_at(floats, 4)),
                 c,
             )),
             part,
         ),
-        ConstraintsAnswer::Refused(why) => words::word_at(refused(why), part),
+        ConstraintsAnswer::Refused(why) => codes::word_at(refused(why), part),
     }
 }

@@ -3,8 +3,8 @@ use mathlib.Core.Path.{_≡_, sym}
 use native.Mathlib.Omega.{arith}
 use borrow.Author.Needs.{needs}
 use lib.ListN.{length, List·getD-eq-default}
-use Rattle.words.proofs.word_at.Statement.{statement}
-use Rattle.words.proofs.word_at.Tie as tie
+use Rattle.codes.proofs.word_at.Statement.{statement}
+use Rattle.codes.proofs.word_at.Tie as tie
 
 room : (c : tie.Start) → length (c .args .t1) ≡ 9
 room c = c .good .0 .1 .0 .1

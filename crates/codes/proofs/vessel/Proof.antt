@@ -1,7 +1,7 @@
 use mathlib.Core.Path.{refl}
-use Rattle.words.specs.Words.{vessel}
-use Rattle.words.proofs.vessel.Statement.{statement}
-use Rattle.words.proofs.vessel.Tie as tie
+use Rattle.codes.specs.Codes.{vessel}
+use Rattle.codes.proofs.vessel.Statement.{statement}
+use Rattle.codes.proofs.vessel.Tie as tie
 
 returns : tie.Need-returns
 unfolding vessel

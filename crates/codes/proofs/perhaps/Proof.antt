@@ -1,8 +1,8 @@
 use borrow.Author.Tests.{eq-eqb, ne-eqb}
 use mathlib.Core.Path.{refl}
-use Rattle.words.specs.Words.{perhaps}
-use Rattle.words.proofs.perhaps.Statement.{statement}
-use Rattle.words.proofs.perhaps.Tie as tie
+use Rattle.codes.specs.Codes.{perhaps}
+use Rattle.codes.proofs.perhaps.Statement.{statement}
+use Rattle.codes.proofs.perhaps.Tie as tie
 
 returns : tie.Need-returns
 unfolding perhaps

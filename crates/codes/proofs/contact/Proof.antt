@@ -1,7 +1,7 @@
 use mathlib.Core.Path.{refl}
-use Rattle.words.specs.Words.{contact}
-use Rattle.words.proofs.contact.Statement.{statement}
-use Rattle.words.proofs.contact.Tie as tie
+use Rattle.codes.specs.Codes.{contact}
+use Rattle.codes.proofs.contact.Statement.{statement}
+use Rattle.codes.proofs.contact.Tie as tie
 
 returns : tie.Need-returns
 unfolding contact

@@ -1,8 +1,8 @@
 use borrow.Author.Tests.{eq-eqb, ne-eqb}
 use mathlib.Core.Path.{refl}
-use Rattle.words.specs.Words.{category}
-use Rattle.words.proofs.category.Statement.{statement}
-use Rattle.words.proofs.category.Tie as tie
+use Rattle.codes.specs.Codes.{category}
+use Rattle.codes.proofs.category.Statement.{statement}
+use Rattle.codes.proofs.category.Tie as tie
 
 returns : tie.Need-returns
 unfolding category

@@ -1,11 +1,11 @@
 use mathlib.Core.Path.{sym}
 use lib.Ieee.{nan}
-use Rattle.words.specs.Words.{zero}
+use Rattle.codes.specs.Codes.{zero}
 use borrow.Author.Needs.{needs}
 use lib.ListN.{List·getD-eq-default}
-use Rattle.words.proofs.Lists.{inside}
-use Rattle.words.proofs.float_at.Statement.{statement}
-use Rattle.words.proofs.float_at.Tie as tie
+use Rattle.codes.proofs.Lists.{inside}
+use Rattle.codes.proofs.float_at.Statement.{statement}
+use Rattle.codes.proofs.float_at.Tie as tie
 
 mul-result : tie.Need-mul-result
 mul-result c = search needs

@@ -1,8 +1,8 @@
 use borrow.Author.Tests.{eq-eqb, ne-eqb}
 use mathlib.Core.Path.{refl}
-use Rattle.words.specs.Words.{visibility}
-use Rattle.words.proofs.visibility.Statement.{statement}
-use Rattle.words.proofs.visibility.Tie as tie
+use Rattle.codes.specs.Codes.{visibility}
+use Rattle.codes.proofs.visibility.Statement.{statement}
+use Rattle.codes.proofs.visibility.Tie as tie
 
 returns : tie.Need-returns
 unfolding visibility

@@ -1,2 +1,2 @@
 -- Values of the C exports.
-pub mod Words
+pub mod Codes

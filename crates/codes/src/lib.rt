@@ -1,7 +1,7 @@
 // Values as the C exports take and give them: bit patterns, codes and floats.
 ghost use mathlib.Core.Path.{_≡_};
 ghost use lib.ListN.{getD};
-ghost use Rattle.words.specs.Words as Spec;
+ghost use Rattle.codes.specs.Codes as Spec;
 use motion::units::Direction;
 use motion::units::Distance;
 use motion::units::Speed;

@@ -1,7 +1,7 @@
 use mathlib.Core.Path.{refl}
-use Rattle.words.specs.Words.{party}
-use Rattle.words.proofs.party.Statement.{statement}
-use Rattle.words.proofs.party.Tie as tie
+use Rattle.codes.specs.Codes.{party}
+use Rattle.codes.proofs.party.Statement.{statement}
+use Rattle.codes.proofs.party.Tie as tie
 
 vessel-requires : tie.Need-vessel-requires
 vessel-requires c κs = tt
