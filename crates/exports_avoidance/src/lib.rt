@@ -12,6 +12,7 @@ use choice::Choice;
 use choice::Chosen;
 use choice::Sides;
 use clearing::MAX_CONTACTS;
+use codes::pattern;
 use elementary::error::Refusal;
 use manoeuvre::answer::AvoidanceManoeuvre;
 use manoeuvre::answer::Limiting;
@@ -28,7 +29,6 @@ use rulings::RuledManoeuvre;
 use situation::party::Party;
 use traffic::Entry;
 use traffic::Traffic;
-use codes::pattern;
 
 // ---- answers as words
 fn side_word(side: Side) -> u64
