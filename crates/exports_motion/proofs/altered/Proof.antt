@@ -1,3 +1,4 @@
+use mathlib.Core.Path.{refl}
 use Rattle.exports_motion.specs.Words.{altered}
 use borrow.Author.Needs.{needs}
 use Rattle.exports_motion.proofs.altered.Statement.{statement}
@@ -17,7 +18,7 @@ course-requires-2 c κs = search needs
 
 returns : tie.Need-returns
 unfolding altered
-returns c = cc
+returns c = rw (c .course2 .ensures, c .before .presence2 .ensures, c .before .before .course .ensures, c .before .before .before .presence .ensures) refl
 
 pub altered-spec : {M : Type 1} → statement M
 altered-spec =

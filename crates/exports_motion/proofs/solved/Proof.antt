@@ -1,3 +1,4 @@
+use mathlib.Core.Path.{refl}
 use Rattle.exports_motion.specs.Words.{solved}
 use borrow.Author.Needs.{needs}
 use Rattle.exports_motion.proofs.solved.Statement.{statement}
@@ -20,7 +21,7 @@ pattern-requires-5 c κs = search needs
 
 returns : tie.Need-returns
 unfolding solved
-returns c = cc
+returns c = rw (c .pattern5 .ensures, c .before .pattern4 .ensures, c .before .before .pattern3 .ensures, c .before .before .before .pattern2 .ensures, c .before .before .before .before .pattern .ensures) refl
 
 pub solved-spec : {M : Type 1} → statement M
 solved-spec =
