@@ -10,7 +10,7 @@ use Rattle.series.proofs.Near.{Near}
 use Rattle.series.proofs.Values.{sine-near, cosine-near}
 use Rattle.series.proofs.Rise.{sine-rises, sine-rises-sharp}
 use Rattle.series.proofs.Turned.{sine-proper}
-use Rattle.arcs.specs.Grid.{lastStep, sineStep, cosineStep}
+use Rattle.grid.specs.Grid.{lastStep, sineStep, cosineStep}
 
 -- ---- over any scale S = k * d: the sine from m / d to n / d rises by at least k / 2 units for each step of 1 / d
 abbrev pub Steep : (S k m n M N D : ℕ) → Type 0

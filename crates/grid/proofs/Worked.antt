@@ -3,10 +3,10 @@ use mathlib.Core.Path.{_≡_, refl}
 use Prim.Native.Nat.{_-_, _^_}
 use Rattle.series.specs.Taylor.{sineDivisors, cosineDivisors}
 use Rattle.series.specs.Units.{horner, square, sineUnits, cosineUnits}
-use Rattle.arcs.specs.Search.{greatest, upTo, greatestTo}
-use Rattle.arcs.specs.Grid.{sineStep, cosineStep}
-use Rattle.arcs.specs.Arcsine.{atMost, arcsineSteps, rest, restStep, fitsIn, upperSteps, scaleFrom, scale, arcsineUnits}
-use Rattle.arcs.specs.Arctangent.{notAbove, arctangentSteps}
+use Rattle.grid.specs.Search.{greatest, upTo, greatestTo}
+use Rattle.grid.specs.Grid.{sineStep, cosineStep}
+use Rattle.grid.specs.Arcsine.{atMost, arcsineSteps, rest, restStep, fitsIn, upperSteps, scaleFrom, scale, arcsineUnits}
+use Rattle.grid.specs.Arctangent.{notAbove, arctangentSteps}
 
 half : arcsineUnits (2 ^ 57) ≡ 2358079250676144
 unfolding arcsineUnits arcsineSteps greatestTo greatest upTo atMost sineStep sineUnits square horner sineDivisors upperSteps scale scaleFrom fitsIn restStep rest cosineDivisors

@@ -7,11 +7,11 @@ use native.Mathlib.Omega.{arith}
 use lib.Arith.{lt→nleb}
 use lib.Dec.{T, leb→le, nleb→lt, le→leb, lit<}
 use Rattle.series.specs.Taylor.{sineNum, sineDen}
-use Rattle.arcs.specs.Search.{Found}
-use Rattle.arcs.specs.Grid.{lastStep, sineStep}
-use Rattle.arcs.specs.Arcsine.{atMost, arcsineSteps}
-use Rattle.arcs.proofs.Searching.{found, found-is}
-use Rattle.arcs.proofs.Steps.{sine-at-zero, sineStep-near, sineStep-climbs, steep-at, lower, upper}
+use Rattle.grid.specs.Search.{Found}
+use Rattle.grid.specs.Grid.{lastStep, sineStep}
+use Rattle.grid.specs.Arcsine.{atMost, arcsineSteps}
+use Rattle.grid.proofs.Searching.{found, found-is}
+use Rattle.grid.proofs.Steps.{sine-at-zero, sineStep-near, sineStep-climbs, steep-at, lower, upper}
 
 pub atMost-falls : (X A : ℕ) → A < lastStep → T (atMost X (A + 1)) → T (atMost X A)
 unfolding atMost

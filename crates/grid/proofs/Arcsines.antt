@@ -7,9 +7,9 @@ use lib.Dec.{lit<}
 use mathlib.Core.Bool.{false}
 use Rattle.laws.proofs.Numbers.{sub-add}
 use Rattle.series.specs.Angle.{halfPi, whole, sineSum}
-use Rattle.arcs.specs.Enclosure.{Angle, IsAtMost, IsAtLeast, IsArcsine}
-use Rattle.arcs.proofs.Enclosing.{up-at-most, up-at-least, down-at-most, down-at-least}
-use Rattle.arcs.proofs.Surrounding.{Place, up, down, Proper, SineAtMost, SineAtLeast, Before, After, Close, Surrounded}
+use Rattle.grid.specs.Enclosure.{Angle, IsAtMost, IsAtLeast, IsArcsine}
+use Rattle.grid.proofs.Enclosing.{up-at-most, up-at-least, down-at-most, down-at-least}
+use Rattle.grid.proofs.Surrounding.{Place, up, down, Proper, SineAtMost, SineAtLeast, Before, After, Close, Surrounded}
 
 abbrev angle : Place → Angle
 angle (up n d) = record { top = whole * n; bottom = whole * d }

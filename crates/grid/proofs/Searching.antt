@@ -6,7 +6,7 @@ use native.Mathlib.Nat.{le-antisymm, pow-succ', add-zero, zero-add}
 use native.Mathlib.Omega.{arith}
 use lib.Dec.{T, T-not, not-T, leb, leb→le, le→leb}
 use lib.Ieee.Fits.{and-i, and-l, and-r}
-use Rattle.arcs.specs.Search.{greatest, upTo, greatestTo, Found}
+use Rattle.grid.specs.Search.{greatest, upTo, greatestTo, Found}
 
 -- passes, and the next does not
 pub record Last (test : ℕ → Bool) (A : ℕ) : Type 0 where

@@ -10,9 +10,9 @@ use lib.Ieee.{unlike}
 use Rattle.series.specs.Taylor.{sineNum, sineDen, cosineNum, cosineDen}
 use Rattle.series.specs.Angle.{halfPi, whole, Signed, even, negative, turned, reduced, negated, sineSum, cosineSum}
 use Rattle.series.proofs.Turned.{sine-proper, cosine-proper}
-use Rattle.arcs.specs.Enclosure.{Angle, Leq, Nearer, Farther, Quadrant, IsArctangent}
-use Rattle.arcs.proofs.Turning.{c, Sine, Cosine, same-sine, same-cosine, after-sum, before-sum, below-or-none}
-use Rattle.arcs.proofs.Placing.{Turn, up, down, over, back, size, Side, Proper, NotUnder, NotOver, Around}
+use Rattle.grid.specs.Enclosure.{Angle, Leq, Nearer, Farther, Quadrant, IsArctangent}
+use Rattle.grid.proofs.Turning.{c, Sine, Cosine, same-sine, same-cosine, after-sum, before-sum, below-or-none}
+use Rattle.grid.proofs.Placing.{Turn, up, down, over, back, size, Side, Proper, NotUnder, NotOver, Around}
 
 abbrev angle : Turn → Angle
 angle v = record { top = size v; bottom = whole * 2 ^ 51 }

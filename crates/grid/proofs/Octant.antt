@@ -10,11 +10,11 @@ use Rattle.series.specs.Units.{horner, square, sineUnits, cosineUnits}
 use Rattle.series.proofs.Horner.{num-le-den}
 use Rattle.series.proofs.Rise.{cosine-falls, cosine-falls-by}
 use Rattle.series.proofs.Turned.{cosine-proper}
-use Rattle.arcs.specs.Search.{Found}
-use Rattle.arcs.specs.Grid.{lastStep, sineStep, cosineStep}
-use Rattle.arcs.specs.Arctangent.{notAbove, arctangentSteps}
-use Rattle.arcs.proofs.Searching.{found, found-is}
-use Rattle.arcs.proofs.Steps.{sine-at-zero, steep-at, sineStep-near, cosineStep-near, sineStep-climbs, sineStep-sharp}
+use Rattle.grid.specs.Search.{Found}
+use Rattle.grid.specs.Grid.{lastStep, sineStep, cosineStep}
+use Rattle.grid.specs.Arctangent.{notAbove, arctangentSteps}
+use Rattle.grid.proofs.Searching.{found, found-is}
+use Rattle.grid.proofs.Steps.{sine-at-zero, steep-at, sineStep-near, cosineStep-near, sineStep-climbs, sineStep-sharp}
 
 -- ---- what the test says of the products
 whole-le : (x y : ℕ) → x / 2 ^ 58 ≤ y / 2 ^ 58 → x ≤ y + 2 ^ 58

@@ -6,7 +6,7 @@ use native.Mathlib.Nat.{le-of-mul-le-mul-right, mul-le-mul-right}
 use native.Mathlib.Omega.{arith}
 use lib.Ieee.{unlike}
 use Rattle.series.specs.Angle.{halfPi, whole, sineSum, cosineSum}
-use Rattle.arcs.specs.Enclosure.{Angle, IsArcsine, Leq, NotPast, NotShort, Nearer, Farther, Quadrant, IsArctangent}
+use Rattle.grid.specs.Enclosure.{Angle, IsArcsine, Leq, NotPast, NotShort, Nearer, Farther, Quadrant, IsArctangent}
 
 -- ---- t / s is t′ / s′
 module _ (t s t′ s′ : ℕ) (S : 0 < s) (e : t′ * s ≡ t * s′) where

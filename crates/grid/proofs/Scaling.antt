@@ -10,11 +10,11 @@ use lib.Dec.{leb, ltb, le→leb, lt→ltb}
 use lib.Ieee.Bits.{is-true, is-false}
 use Rattle.series.specs.Taylor.{sineDivisors}
 use Rattle.series.specs.Units.{horner, square, sineUnits}
-use Rattle.arcs.specs.Grid.{lastStep, sineStep}
-use Rattle.arcs.specs.Arcsine.{arcsineSteps, upperSteps, scaleFrom, scale, halfPiSteps, arcsineUnits}
-use Rattle.arcs.proofs.Lower.{arcsine-found}
-use Rattle.arcs.proofs.Upper.{Scaled, scaled}
-use Rattle.arcs.proofs.Surrounding.{f-small}
+use Rattle.grid.specs.Grid.{lastStep, sineStep}
+use Rattle.grid.specs.Arcsine.{arcsineSteps, upperSteps, scaleFrom, scale, halfPiSteps, arcsineUnits}
+use Rattle.grid.proofs.Lower.{arcsine-found}
+use Rattle.grid.proofs.Upper.{Scaled, scaled}
+use Rattle.grid.proofs.Surrounding.{f-small}
 
 -- ---- a turn of the loop that doubles
 pub scale-begins : (e : ℕ) → scaleFrom 27 e 1 ≡ scale e

@@ -2,9 +2,9 @@
 use mathlib.Core.Bool.{Bool, true, false}
 use Prim.Native.Nat.{ℕ, _+_, _*_, _-_, _/_, _^_}
 use lib.Dec.{leb}
-use Rattle.arcs.specs.Search.{greatestTo}
-use Rattle.arcs.specs.Grid.{lastStep, sineStep, cosineStep}
-use Rattle.arcs.specs.Arcsine.{halfPiSteps}
+use Rattle.grid.specs.Search.{greatestTo}
+use Rattle.grid.specs.Grid.{lastStep, sineStep, cosineStep}
+use Rattle.grid.specs.Arcsine.{halfPiSteps}
 
 unfoldable pub notAbove : ℕ → ℕ → ℕ → Bool
 notAbove U W A = leb (U * sineStep A / 2 ^ 58) (W * cosineStep A / 2 ^ 58)

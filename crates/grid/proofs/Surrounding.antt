@@ -10,11 +10,11 @@ use lib.Dec.{T, leb, ltb, leb→le, nleb→lt, ltb→lt, nltb→le, lit<, lit≤
 use Rattle.series.specs.Taylor.{num, den, sineDivisors, sineNum, sineDen, cosineNum, cosineDen}
 use Rattle.series.proofs.Horner.{num-le-den}
 use Rattle.series.proofs.Rise.{cosine-falls, cosine-at-zero}
-use Rattle.arcs.specs.Grid.{lastStep, sineStep}
+use Rattle.grid.specs.Grid.{lastStep, sineStep}
 use Rattle.series.specs.Angle.{halfPi, whole}
-use Rattle.arcs.specs.Arcsine.{arcsineSteps, upperSteps, scale, halfPiSteps, arcsineUnits}
-use Rattle.arcs.proofs.Lower.{Enclosed, arcsine-encloses, lower-at}
-use Rattle.arcs.proofs.Upper.{Encloses, upper-encloses, upper-below-top, Scaled, scaled}
+use Rattle.grid.specs.Arcsine.{arcsineSteps, upperSteps, scale, halfPiSteps, arcsineUnits}
+use Rattle.grid.proofs.Lower.{Enclosed, arcsine-encloses, lower-at}
+use Rattle.grid.proofs.Upper.{Encloses, upper-encloses, upper-below-top, Scaled, scaled}
 
 -- ---- places of angles: n / d, or half pi less n / d
 pub data Place : Type 0 where

@@ -7,9 +7,9 @@ use native.Mathlib.Nat.{eq-or-lt-of-le}
 use native.Mathlib.Omega.{arith}
 use Rattle.series.specs.Taylor.{sineNum, sineDen, cosineNum, cosineDen}
 use Rattle.series.specs.Angle.{halfPi, whole}
-use Rattle.arcs.specs.Grid.{lastStep}
-use Rattle.arcs.specs.Arctangent.{arctangentSteps, placed}
-use Rattle.arcs.proofs.Octant.{Changes, arctangent-changes}
+use Rattle.grid.specs.Grid.{lastStep}
+use Rattle.grid.specs.Arctangent.{arctangentSteps, placed}
+use Rattle.grid.proofs.Octant.{Changes, arctangent-changes}
 
 -- n / 2 ^ 51, half pi less that, half pi and that, pi less that
 pub data Turn : Type 0 where

@@ -15,11 +15,11 @@ use Rattle.series.proofs.Values.{square-small, cosine-at-least}
 use Rattle.series.proofs.Rise.{cosine-falls}
 use Rattle.series.proofs.Slope.{climb-12-to, climb-sharp}
 use Rattle.series.proofs.Turned.{den-pos}
-use Rattle.arcs.specs.Search.{Found}
-use Rattle.arcs.specs.Grid.{lastStep}
-use Rattle.arcs.specs.Arcsine.{rest, restStep, fitsIn, upperSteps, scaleFrom, scale}
-use Rattle.arcs.proofs.Searching.{found, found-is}
-use Rattle.arcs.proofs.Steps.{on-grid}
+use Rattle.grid.specs.Search.{Found}
+use Rattle.grid.specs.Grid.{lastStep}
+use Rattle.grid.specs.Arcsine.{rest, restStep, fitsIn, upperSteps, scaleFrom, scale}
+use Rattle.grid.proofs.Searching.{found, found-is}
+use Rattle.grid.proofs.Steps.{on-grid}
 
 -- ---- the exact fraction at n / (e * f)
 unfoldable pub restNum : ℕ → ℕ → ℕ

@@ -6,8 +6,8 @@ use Prim.Native.Nat.{ℕ, zero, suc, _*_, _-_, _/_, _^_}
 use lib.Dec.{leb, ltb}
 use Rattle.series.specs.Taylor.{cosineDivisors}
 use Rattle.series.specs.Units.{horner}
-use Rattle.arcs.specs.Search.{greatestTo}
-use Rattle.arcs.specs.Grid.{lastStep, sineStep}
+use Rattle.grid.specs.Search.{greatestTo}
+use Rattle.grid.specs.Grid.{lastStep, sineStep}
 
 unfoldable pub atMost : ℕ → ℕ → Bool
 atMost X A = leb (sineStep A) X

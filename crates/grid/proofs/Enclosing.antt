@@ -8,8 +8,8 @@ use lib.Dec.{lit<}
 use Rattle.series.specs.Taylor.{sineNum, sineDen, cosineNum, cosineDen}
 use Rattle.series.specs.Angle.{halfPi, whole, even, negative, turned, negated, sineSum}
 use Rattle.series.proofs.Turned.{sine-proper, cosine-proper}
-use Rattle.arcs.proofs.Turning.{c, Sine, Cosine, same-sine, same-cosine, after-sum, before-sum}
-use Rattle.arcs.specs.Enclosure.{IsAtMost, IsAtLeast}
+use Rattle.grid.proofs.Turning.{c, Sine, Cosine, same-sine, same-cosine, after-sum, before-sum}
+use Rattle.grid.specs.Enclosure.{IsAtMost, IsAtLeast}
 
 -- ---- comparisons of the sums: the same at any scale
 at-most-same : (N D N′ D′ a b : ℕ) → 0 < D → N′ * D ≡ N * D′ → N * b ≤ a * D → N′ * b ≤ a * D′
