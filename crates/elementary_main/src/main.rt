@@ -88,9 +88,9 @@ fn number(which: u64, x: f64, y: f64) -> f64 {
         1 => root::hypot(x, y),
         2 => math::abs(x),
         3 => math::copysign(x, y),
-        4 => math::trunc(x),
-        5 => math::round(x),
-        6 => math::ceil(x),
+        4 => rounding::trunc(x),
+        5 => rounding::round(x),
+        6 => rounding::ceil(x),
         7 => math::to_radians(x),
         8 => math::to_degrees(x),
         9 => angle::wrap360(x),
@@ -109,9 +109,9 @@ fn other(which: u64, a: u64, b: u64) -> u64 {
     let x = float_of(a);
     let y = float_of(b);
     match which {
-        20 => truth(math::is_integral(x)),
+        20 => truth(rounding::is_integral(x)),
         21 => truth(math::is_effectively_zero(x, y)),
-        22 => pattern_of(math::round_to_i32(x) as f64),
+        22 => pattern_of(rounding::round_to_i32(x) as f64),
         23 => math::to_usize(x) as u64,
         24 => pattern_of(math::count_to_f64(a as usize)),
         25 => truth(elementary::error::ensure_range(x, 0.0, y)),

@@ -2,7 +2,7 @@
 -- A finite float `fin s m e` is a / c in size, with a = m * up e and c = down e, and keeps its sign. The whole numbers here are floats themselves, so `round` rounds nothing.
 use mathlib.Core.Bool.{Bool, cond}
 use Prim.Native.Nat.{ℕ, _+_, _*_, _-_, _/_}
-use lib.Ieee.{Float, nan, inf, fin, binary64, up, down, round}
+use lib.Ieee.{Float, nan, inf, fin, binary64, up, down, round, eq}
 
 -- the whole number that `w` makes of the sign and the size
 unfoldable pub whole : (Bool → ℕ → ℕ → ℕ) → Float → Float
@@ -22,3 +22,8 @@ roundHalfAway = whole (λ s a c. (2 * a + c) / (2 * c))
 unfoldable pub ceil : Float → Float
 unfolding whole
 ceil = whole (λ s a c. cond s (a / c) ((a + (c - 1)) / c))
+
+-- whether x is a whole number (math.rs, operation by operation)
+unfoldable pub isIntegral : Float → Bool
+unfolding trunc
+isIntegral x = eq x (trunc x)

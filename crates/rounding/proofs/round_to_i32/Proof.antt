@@ -1,8 +1,8 @@
 use lib.Ieee.{ofBits, neg}
-use Rattle.math.proofs.Cast.{i32-over, i32-under, i32-castable, i32-fits, i32-in, i32-nan}
+use Rattle.rounding.proofs.Cast.{i32-over, i32-under, i32-castable, i32-fits, i32-in, i32-nan}
 use borrow.Author.Needs.{needs}
-use Rattle.math.proofs.round_to_i32.Statement.{statement}
-use Rattle.math.proofs.round_to_i32.Tie as tie
+use Rattle.rounding.proofs.round_to_i32.Statement.{statement}
+use Rattle.rounding.proofs.round_to_i32.Tie as tie
 
 round-requires : tie.Need-round-requires
 round-requires c κs = search needs

@@ -1,9 +1,9 @@
 use mathlib.Core.Path.{ap}
 use lib.Ieee.{eq}
-use Rattle.math.specs.Test.{isIntegral}
+use Rattle.rounding.specs.Whole.{isIntegral}
 use borrow.Author.Needs.{needs}
-use Rattle.math.proofs.is_integral.Statement.{statement}
-use Rattle.math.proofs.is_integral.Tie as tie
+use Rattle.rounding.proofs.is_integral.Statement.{statement}
+use Rattle.rounding.proofs.is_integral.Tie as tie
 
 trunc-requires : tie.Need-trunc-requires
 trunc-requires c κs = search needs

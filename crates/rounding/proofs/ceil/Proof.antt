@@ -1,10 +1,10 @@
 use mathlib.Core.Path.{sym, subst}
 use lib.Dec.{T}
 use lib.Ieee.{ofBits}
-use Rattle.math.proofs.Whole.{ceil-up, ceil-same}
+use Rattle.rounding.proofs.Whole.{ceil-up, ceil-same}
 use borrow.Author.Needs.{needs}
-use Rattle.math.proofs.ceil.Statement.{statement}
-use Rattle.math.proofs.ceil.Tie as tie
+use Rattle.rounding.proofs.ceil.Statement.{statement}
+use Rattle.rounding.proofs.ceil.Tie as tie
 
 trunc-requires : tie.Need-trunc-requires
 trunc-requires c κs = search needs

@@ -18,9 +18,9 @@ use Rattle.laws.proofs.Compare.{lt-values}
 use Rattle.laws.proofs.Exact.{castable-value, finite-of-value, value-units, round-own, mul-power, to-unsigned}
 use Rattle.laws.proofs.Order.{lt-not-self}
 use Rattle.laws.proofs.Units.{rescale, small-of-fits, add-units}
 use Rattle.math.specs.Sign.{sign, abs, copysign}
-use Rattle.math.specs.Whole.{whole, trunc, roundHalfAway, ceil}
+use Rattle.rounding.specs.Whole.{whole, trunc, roundHalfAway, ceil}
 use Rattle.math.proofs.Sign.{abs-fits, copysign-round}
 
 -- 2 ^ 52
 abbrev allWhole : Float

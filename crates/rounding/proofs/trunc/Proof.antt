@@ -1,10 +1,10 @@
 use mathlib.Core.Path.{sym, subst}
 use lib.Dec.{T}
 use lib.Ieee.{ofBits}
-use Rattle.math.proofs.Whole.{trunc-asks, trunc-holds, trunc-is, trunc-stays}
+use Rattle.rounding.proofs.Whole.{trunc-asks, trunc-holds, trunc-is, trunc-stays}
 use borrow.Author.Needs.{needs}
-use Rattle.math.proofs.trunc.Statement.{statement}
-use Rattle.math.proofs.trunc.Tie as tie
+use Rattle.rounding.proofs.trunc.Statement.{statement}
+use Rattle.rounding.proofs.trunc.Tie as tie
 
 abs-requires : tie.Need-abs-requires
 abs-requires c κs = search needs

@@ -2,10 +2,10 @@ use mathlib.Core.Path.{sym, subst}
 use native.Mathlib.Omega.{arith}
 use lib.Dec.{T}
 use lib.Ieee.{ofBits}
-use Rattle.math.proofs.Whole.{round-asks, round-few, round-holds, round-is, round-stays}
+use Rattle.rounding.proofs.Whole.{round-asks, round-few, round-holds, round-is, round-stays}
 use borrow.Author.Needs.{needs}
-use Rattle.math.proofs.round.Statement.{statement}
-use Rattle.math.proofs.round.Tie as tie
+use Rattle.rounding.proofs.round.Statement.{statement}
+use Rattle.rounding.proofs.round.Tie as tie
 
 abs-requires : tie.Need-abs-requires
 abs-requires c κs = search needs
