@@ -1,7 +1,7 @@
 use mathlib.Core.Path.{refl}
 use borrow.Author.Needs.{needs}
-use Rattle.exports_motion.proofs.motion_course.Statement.{statement}
-use Rattle.exports_motion.proofs.motion_course.Tie as tie
+use Rattle.exports_course.proofs.motion_course.Statement.{statement}
+use Rattle.exports_course.proofs.motion_course.Tie as tie
 
 vessel-requires : tie.Need-vessel-requires
 vessel-requires c κs = search needs

@@ -1,8 +1,8 @@
-use Rattle.exports_motion.specs.Words.{pattern}
+use Rattle.words.specs.Words.{pattern}
 use mathlib.Core.Path.{refl, sym, ap, _∙_}
 use Rattle.laws.proofs.Pattern.{no-nan-of-eq}
-use Rattle.exports_motion.proofs.pattern.Statement.{statement}
-use Rattle.exports_motion.proofs.pattern.Tie as tie
+use Rattle.words.proofs.pattern.Statement.{statement}
+use Rattle.words.proofs.pattern.Tie as tie
 
 float-to-bits-result : tie.Need-float-to-bits-result
 float-to-bits-result c = no-nan-of-eq (c .before .args .x) (c .if1 .taken)

@@ -1,7 +1,7 @@
 use mathlib.Core.Path.{refl}
 use borrow.Author.Needs.{needs}
-use Rattle.exports_motion.proofs.motion_plot.Statement.{statement}
-use Rattle.exports_motion.proofs.motion_plot.Tie as tie
+use Rattle.exports_course.proofs.motion_plot.Statement.{statement}
+use Rattle.exports_course.proofs.motion_plot.Tie as tie
 
 vessel-requires : tie.Need-vessel-requires
 vessel-requires c κs = search needs

@@ -1,8 +1,8 @@
 use borrow.Author.Tests.{eq-eqb, ne-eqb}
 use mathlib.Core.Path.{refl}
-use Rattle.exports_motion.specs.Words.{word}
-use Rattle.exports_motion.proofs.word.Statement.{statement}
-use Rattle.exports_motion.proofs.word.Tie as tie
+use Rattle.words.specs.Words.{word}
+use Rattle.words.proofs.word.Statement.{statement}
+use Rattle.words.proofs.word.Tie as tie
 
 returns : tie.Need-returns
 unfolding word

@@ -1,8 +1,8 @@
 use mathlib.Core.Path.{sym, ap, _∙_}
-use Rattle.exports_motion.specs.Words.{plotWords}
+use Rattle.exports_course.specs.Words.{plotWords}
 use borrow.Author.Needs.{needs}
-use Rattle.exports_motion.proofs.plot_words.Statement.{statement}
-use Rattle.exports_motion.proofs.plot_words.Tie as tie
+use Rattle.exports_course.proofs.plot_words.Statement.{statement}
+use Rattle.exports_course.proofs.plot_words.Tie as tie
 
 enum-known-answer : tie.Need-enum-known-answer
 enum-known-answer c = search needs

@@ -1,8 +1,8 @@
 use mathlib.Core.Path.{refl}
-use Rattle.exports_motion.specs.Words.{altered}
+use Rattle.exports_course.specs.Words.{altered}
 use borrow.Author.Needs.{needs}
-use Rattle.exports_motion.proofs.altered.Statement.{statement}
-use Rattle.exports_motion.proofs.altered.Tie as tie
+use Rattle.exports_course.proofs.altered.Statement.{statement}
+use Rattle.exports_course.proofs.altered.Tie as tie
 
 presence-requires : tie.Need-presence-requires
 presence-requires c κs = search needs

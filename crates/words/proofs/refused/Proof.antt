@@ -1,8 +1,8 @@
 use mathlib.Core.Path.{refl}
-use Rattle.exports_motion.specs.Words.{refused}
+use Rattle.words.specs.Words.{refused}
 use borrow.Author.Needs.{needs}
-use Rattle.exports_motion.proofs.refused.Statement.{statement}
-use Rattle.exports_motion.proofs.refused.Tie as tie
+use Rattle.words.proofs.refused.Statement.{statement}
+use Rattle.words.proofs.refused.Tie as tie
 
 number-requires : tie.Need-number-requires
 number-requires c κs = search needs

@@ -1,8 +1,8 @@
 use mathlib.Core.Path.{refl}
-use Rattle.exports_motion.specs.Words.{solved}
+use Rattle.exports_course.specs.Words.{solved}
 use borrow.Author.Needs.{needs}
-use Rattle.exports_motion.proofs.solved.Statement.{statement}
-use Rattle.exports_motion.proofs.solved.Tie as tie
+use Rattle.exports_course.proofs.solved.Statement.{statement}
+use Rattle.exports_course.proofs.solved.Tie as tie
 
 pattern-requires : tie.Need-pattern-requires
 pattern-requires c κs = search needs

@@ -1,8 +1,8 @@
 use mathlib.Core.Path.{sym, ap, _∙_}
-use Rattle.exports_motion.specs.Words.{course}
+use Rattle.exports_course.specs.Words.{course}
 use borrow.Author.Needs.{needs}
-use Rattle.exports_motion.proofs.course.Statement.{statement}
-use Rattle.exports_motion.proofs.course.Tie as tie
+use Rattle.exports_course.proofs.course.Statement.{statement}
+use Rattle.exports_course.proofs.course.Tie as tie
 
 enum-told : tie.Need-enum-told
 enum-told c = search needs
