@@ -8,7 +8,7 @@ use std::process::Command;
 use std::{env, fs};
 
 /// The archives with the port's C exports.
-const ARCHIVES: &[&str] = &["elementary", "exports", "exports_time", "exports_motion", "exports_ruling"];
+const ARCHIVES: &[&str] = &["exports_elementary", "exports", "exports_time", "exports_motion", "exports_course", "exports_ruling"];
 
 /// The listed files in use: module name and path below the sources' folder. The name `error` is the kernel's.
 const LISTED: &[(&str, &str)] = &[

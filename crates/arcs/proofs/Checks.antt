@@ -11,20 +11,20 @@ use lib.Ieee.Bits.{is-true, is-false}
 use lib.Ieee.Fits.{and-r}
 use Rattle.series.specs.Taylor.{sineDivisors, cosineDivisors}
 use Rattle.series.specs.Units.{horner, square, sineUnits, cosineUnits}
-use Rattle.arcs.specs.Search.{greatest, upTo, greatestTo, Found}
-use Rattle.arcs.specs.Grid.{lastStep, sineStep, cosineStep}
-use Rattle.arcs.specs.Arcsine.{atMost, arcsineSteps, rest, restStep, fitsIn, upperSteps}
-use Rattle.arcs.specs.Arctangent.{notAbove, arctangentSteps}
+use Rattle.grid.specs.Search.{greatest, upTo, greatestTo, Found}
+use Rattle.grid.specs.Grid.{lastStep, sineStep, cosineStep}
+use Rattle.grid.specs.Arcsine.{atMost, arcsineSteps, rest, restStep, fitsIn, upperSteps}
+use Rattle.grid.specs.Arctangent.{notAbove, arctangentSteps}
 use Rattle.arcs.specs.Goal.{test, Small, Steady}
 use Rattle.arcs.specs.declared.Goal.{Goal}
 use Rattle.arcs.specs.declared.Goal.the-variants.{Sine, Rest, Tangent}
-use Rattle.arcs.proofs.Searching.{turn, found-is}
-use Rattle.arcs.proofs.Lower.{atMost-falls, atMost-zero, arcsine-found}
-use Rattle.arcs.proofs.Steps as steps
-use Rattle.arcs.proofs.Upper.{upper-is, upper-found}
-use Rattle.arcs.proofs.Upper as up
-use Rattle.arcs.proofs.Octant.{arctangent-is, arctangent-found}
-use Rattle.arcs.proofs.Octant as octant
+use Rattle.grid.proofs.Searching.{turn, found-is}
+use Rattle.grid.proofs.Lower.{atMost-falls, atMost-zero, arcsine-found}
+use Rattle.grid.proofs.Steps as steps
+use Rattle.grid.proofs.Upper.{upper-is, upper-found}
+use Rattle.grid.proofs.Upper as up
+use Rattle.grid.proofs.Octant.{arctangent-is, arctangent-found}
+use Rattle.grid.proofs.Octant as octant
 
 -- ---- the values at a step
 pub sine-is : (a r z q s : ℕ) → r ≡ 512 * a → z ≡ r * r / 2 ^ 58 → q ≡ horner (2 ^ 58) z 1 sineDivisors → s ≡ r * q / 2 ^ 58 → s ≡ sineStep a

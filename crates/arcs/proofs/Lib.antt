@@ -1,16 +1,2 @@
--- Laws on the arcs.
-pub mod Arcsines
-pub mod Arctangents
+-- What the code of the searches owes.
 pub mod Checks
-pub mod Enclosing
-pub mod Lower
-pub mod Octant
-pub mod Placing
-pub mod Rescaling
-pub mod Scaling
-pub mod Searching
-pub mod Steps
-pub mod Surrounding
-pub mod Turning
-pub mod Upper
-pub mod Worked

@@ -1,8 +1,8 @@
 -- The three tests of the search as one (src/lib.rt, `Goal`), and what the code asks of their numbers.
 use mathlib.Core.Bool.{Bool}
 use Prim.Native.Nat.{ℕ, _*_, _^_, _≤_, _<_}
-use Rattle.arcs.specs.Arcsine.{atMost, fitsIn}
-use Rattle.arcs.specs.Arctangent.{notAbove}
+use Rattle.grid.specs.Arcsine.{atMost, fitsIn}
+use Rattle.grid.specs.Arctangent.{notAbove}
 use Rattle.arcs.specs.declared.Goal.{Goal}
 use Rattle.arcs.specs.declared.Goal.the-variants.{Sine, Rest, Tangent}
 

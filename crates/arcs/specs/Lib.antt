@@ -1,7 +1,2 @@
--- Arcsine and arctangent.
-pub mod Arcsine
-pub mod Arctangent
-pub mod Enclosure
+-- What is searched for.
 pub mod Goal
-pub mod Grid
-pub mod Search

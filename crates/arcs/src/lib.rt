@@ -8,10 +8,10 @@ mod guess;
 ghost use mathlib.Core.Path.{_≡_};
 ghost use mathlib.Core.Bool.{true};
 ghost use Prim.Native.Nat.{_*_, _/_, _^_, _≤_, _<_};
-ghost use Rattle.arcs.specs.Search.{upTo, greatestTo, Found};
-ghost use Rattle.arcs.specs.Grid.{lastStep, sineStep, cosineStep};
-ghost use Rattle.arcs.specs.Arcsine.{restStep, atMost, fitsIn, scale, upperSteps, arcsineUnits};
-ghost use Rattle.arcs.specs.Arctangent.{notAbove, arctangentSteps};
+ghost use Rattle.grid.specs.Search.{upTo, greatestTo, Found};
+ghost use Rattle.grid.specs.Grid.{lastStep, sineStep, cosineStep};
+ghost use Rattle.grid.specs.Arcsine.{restStep, atMost, fitsIn, scale, upperSteps, arcsineUnits};
+ghost use Rattle.grid.specs.Arctangent.{notAbove, arctangentSteps};
 ghost use Rattle.arcs.specs.Goal.{test, Small, Steady};
 
 // One, in units: 2^58.

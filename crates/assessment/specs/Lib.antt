@@ -1,3 +1,2 @@
 -- The collision assessment.
 pub mod Assess
-pub mod Policy

@@ -22,9 +22,9 @@ use Rattle.series.specs.Angle.{distance, quarters, even, negative}
 use Rattle.series.specs.Units.{horner, square, sineUnits, cosineUnits, removed, rest, turnedMinus, turnedUnits}
 use Rattle.circular.specs.Sine.{sin, cos}
 use Rattle.circular.specs.Sine as circular
-use Rattle.arcs.specs.Search.{greatest, upTo, greatestTo}
-use Rattle.arcs.specs.Grid.{sineStep, cosineStep}
-use Rattle.arcs.specs.Arctangent.{notAbove, arctangentSteps, placed}
+use Rattle.grid.specs.Search.{greatest, upTo, greatestTo}
+use Rattle.grid.specs.Grid.{sineStep, cosineStep}
+use Rattle.grid.specs.Arctangent.{notAbove, arctangentSteps, placed}
 use Rattle.inverse.specs.Atan2.{scaledBy, octant, angleSteps, bothFinite, atan2}
 use Rattle.elementary.specs.Range.{inRange}
 use Rattle.motion.specs.declared.units.Angle.{Angle}
@@ -38,13 +38,14 @@ use Rattle.arguments.specs.Check.{verdict, isDirection, isSpeed, isDistance, en
 use Rattle.relative_motion.specs.declared.approach.Cpa.{Cpa}
 use Rattle.relative_motion.specs.Approach.{timeToGo, relativeSpeed, closingRate, timeOf, closest, approachFrom}
 use Rattle.relative_motion.specs.Bow.{notNegative, determinant, crossing}
-use Rattle.assessment.specs.declared.policy.CpaPolicy.{CpaPolicy}
-use Rattle.assessment.specs.declared.assess.PerhapsCpa.{PerhapsCpa}
-use Rattle.assessment.specs.declared.assess.PerhapsCpa.the-variants as Cpas
+use Rattle.policy.specs.declared.CpaPolicy.{CpaPolicy}
+use Rattle.risk.specs.declared.PerhapsCpa.{PerhapsCpa}
+use Rattle.risk.specs.declared.PerhapsCpa.the-variants as Cpas
 use Rattle.assessment.specs.declared.assess.AssessAnswer.{AssessAnswer}
 use Rattle.assessment.specs.declared.assess.AssessAnswer.the-variants as Assess
-use Rattle.assessment.specs.Policy.{policyAnswer, policyNumber}
-use Rattle.assessment.specs.Assess.{rank, driftPerHour, driftOf, riskAt, assessment, assessAnswer}
+use Rattle.policy.specs.Policy.{policyAnswer, policyNumber}
+use Rattle.risk.specs.Risk.{rank, driftPerHour, driftOf, riskAt}
+use Rattle.assessment.specs.Assess.{assessment, assessAnswer}
 use Rattle.trials.specs.Trials.{last, trial, trialsFrom, trials}
 use Rattle.manoeuvre.specs.declared.constraints.PermittedSides.the-variants as Sides
 use Rattle.manoeuvre.specs.declared.constraints.PerhapsRate.the-variants as Rate

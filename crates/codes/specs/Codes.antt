@@ -1,10 +1,9 @@
--- Values as the C exports take and give them.
+-- Arguments of the C exports from codes and lists of floats.
 use mathlib.Core.Bool.{cond}
 use Prim.Native.Nat.{ℕ}
 use lib.Dec.{eqb}
-use lib.Ieee.{Float, binary64, eq, ofBits, toBits}
-use Rattle.motion.specs.declared.vessel.Vessel.{Vessel}
-use Rattle.motion.specs.declared.vessel.Contact.{Contact}
+use lib.Ieee.{Float, binary64, ofBits}
+use Rattle.words.specs.Words.{vessel}
 use Rattle.situation.specs.declared.party.Tack.the-variants as Tack
 use Rattle.situation.specs.declared.party.VesselCategory.{VesselCategory}
 use Rattle.situation.specs.declared.party.VesselCategory.the-variants.{PowerDriven, Sailing, Fishing, ConstrainedByDraught, RestrictedInAbilityToManoeuvre, NotUnderCommand}
@@ -13,10 +12,6 @@ use Rattle.situation.specs.declared.party.Visibility.the-variants.{InSight, Res
 use Rattle.situation.specs.declared.party.Party.{Party}
 use Rattle.situation.specs.declared.party.Perhaps.{Perhaps}
 use Rattle.situation.specs.declared.party.Perhaps.the-variants.{Unknown, Known}
-
--- one pattern stands for every NaN
-unfoldable pub pattern : Float → ℕ
-pattern x = cond (eq x x) (toBits binary64 x) 0x7ff8_0000_0000_0000
 
 abbrev pub zero : Float
 zero = ofBits binary64 0
@@ -36,12 +31,6 @@ visibility code = cond (eqb code 0) InSight Restricted
 
 unfoldable pub perhaps : ℕ → Float → Perhaps
 perhaps known degrees = cond (eqb known 0) Unknown (Known (record { 0 = degrees }))
-
-unfoldable pub vessel : Float → Float → Vessel
-vessel course speed = record { course = record { 0 = course }; speed = record { 0 = speed } }
-
-unfoldable pub contact : Float → Float → Contact
-contact bearing range = record { bearing = record { 0 = bearing }; range = record { 0 = range } }
 
 unfoldable pub party : ℕ → ℕ → Float → Float → Float → Party
 party code known course speed heading = record { motion = vessel course speed; heading = perhaps known heading; category = category code }

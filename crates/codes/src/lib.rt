@@ -1,27 +1,13 @@
-// Values as the C exports take and give them: bit patterns, codes and floats.
+// Arguments of the C exports that are codes and lists of floats, and answers that are lists of words.
 ghost use mathlib.Core.Path.{_≡_};
 ghost use lib.ListN.{getD};
 ghost use Rattle.codes.specs.Codes as Spec;
 use motion::units::Direction;
-use motion::units::Distance;
-use motion::units::Speed;
-use motion::vessel::Contact;
-use motion::vessel::Vessel;
 use situation::party::Party;
 use situation::party::Perhaps;
 use situation::party::Tack;
 use situation::party::VesselCategory;
 use situation::party::Visibility;
-
-// The bits of a float; one pattern stands for every NaN.
-pub fn pattern(x: f64) -> u64
-    ensures { λ r. ⌜ r ≡ Spec.pattern x ⌝ }
-{
-    if x == x {
-        return f64::to_bits(x);
-    }
-    9221120237041090560
-}
 
 // A float of a list, 0 where there is none.
 pub fn float_at(floats: &[f64], i: usize) -> f64
@@ -93,28 +79,10 @@ pub fn perhaps(known: u32, degrees: f64) -> Perhaps
     Perhaps::Known(Direction(degrees))
 }
 
-pub fn vessel(course: f64, speed: f64) -> Vessel
-    ensures { λ r. ⌜ r ≡ Spec.vessel course speed ⌝ }
-{
-    Vessel {
-        course: Direction(course),
-        speed: Speed(speed),
-    }
-}
-
-pub fn contact(bearing: f64, range: f64) -> Contact
-    ensures { λ r. ⌜ r ≡ Spec.contact bearing range ⌝ }
-{
-    Contact {
-        bearing: Direction(bearing),
-        range: Distance(range),
-    }
-}
-
 pub fn party(code: u32, known: u32, course: f64, speed: f64, heading: f64) -> Party
     ensures { λ r. ⌜ r ≡ Spec.party code known course speed heading ⌝ }
 {
-    let motion = vessel(course, speed);
+    let motion = words::vessel(course, speed);
     let heads = perhaps(known, heading);
     let what = category(code);
     Party {

@@ -1,3 +1,2 @@
--- Laws on refusals and refusing functions.
-pub mod Answers
+-- Laws on refusals.
 pub mod Listed

@@ -1,4 +1,3 @@
--- Refusals, ranges and refusing functions.
-pub mod Checked
+-- Refusals and ranges.
 pub mod Range
 pub mod Refusal

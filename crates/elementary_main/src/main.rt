@@ -1,7 +1,7 @@
 // Replays the Rust's answers. Each record of standard input is three little-endian words: the function's number, x and y, floats as
 // bit patterns. For each the program writes the answer, as sixteen hexadecimal digits on a line; the file `stdout` has what
 // the Rust answers. How the records are made is said in docs/COMPARISON.md.
-use elementary::checked::Real;
+use domains::Real;
 use libc::STDIN_FILENO;
 use libc::STDOUT_FILENO;
 use time::Duration;
@@ -88,9 +88,9 @@ fn number(which: u64, x: f64, y: f64) -> f64 {
         1 => root::hypot(x, y),
         2 => math::abs(x),
         3 => math::copysign(x, y),
-        4 => math::trunc(x),
-        5 => math::round(x),
-        6 => math::ceil(x),
+        4 => rounding::trunc(x),
+        5 => rounding::round(x),
+        6 => rounding::ceil(x),
         7 => math::to_radians(x),
         8 => math::to_degrees(x),
         9 => angle::wrap360(x),
@@ -109,13 +109,13 @@ fn other(which: u64, a: u64, b: u64) -> u64 {
     let x = float_of(a);
     let y = float_of(b);
     match which {
-        20 => truth(math::is_integral(x)),
+        20 => truth(rounding::is_integral(x)),
         21 => truth(math::is_effectively_zero(x, y)),
-        22 => pattern_of(math::round_to_i32(x) as f64),
+        22 => pattern_of(rounding::round_to_i32(x) as f64),
         23 => math::to_usize(x) as u64,
         24 => pattern_of(math::count_to_f64(a as usize)),
         25 => truth(elementary::error::ensure_range(x, 0.0, y)),
-        26 => pattern_in(elementary::checked::hypot(x, y)),
+        26 => pattern_in(domains::hypot(x, y)),
         27 => secs_in(time::duration_from_secs(x)),
         28 => nanos_in(time::duration_from_secs(x)),
         29 => secs_in(time::duration_from_hours(x)),
@@ -123,10 +123,10 @@ fn other(which: u64, a: u64, b: u64) -> u64 {
         31 => pattern_of(duration(a, b).hours()),
         32 => truth(duration(a, 1).is_before(duration(b, 2))),
         33 => truth(duration(a, b).is_accepted()),
-        34 => pattern_in(elementary::checked::sin(x)),
-        35 => pattern_in(elementary::checked::cos(x)),
-        36 => pattern_in(elementary::checked::asin(x)),
-        37 => pattern_in(elementary::checked::atan2(x, y)),
+        34 => pattern_in(domains::sin(x)),
+        35 => pattern_in(domains::cos(x)),
+        36 => pattern_in(domains::asin(x)),
+        37 => pattern_in(domains::atan2(x, y)),
         _ => truth(math::is_finite(x)),
     }
 }

@@ -2,30 +2,31 @@
 // the function that it exports.
 ghost use mathlib.Core.Path.{_≡_};
 ghost use Rattle.math.specs.Cast as Cast;
+ghost use Rattle.rounding.specs.Cast as Rounded;
 ghost use Rattle.math.specs.Convert as Convert;
 ghost use Rattle.math.specs.Test as Test;
-ghost use Rattle.math.specs.Whole as Whole;
+ghost use Rattle.rounding.specs.Whole as Whole;
 ghost use Rattle.angle.specs.Fold as Fold;
 
 #[no_mangle]
 pub extern "C" fn port_trunc(x: f64) -> f64
     ensures { λ r. ⌜ r ≡ Whole.trunc x ⌝ }
 {
-    math::trunc(x)
+    rounding::trunc(x)
 }
 
 #[no_mangle]
 pub extern "C" fn port_round(x: f64) -> f64
     ensures { λ r. ⌜ r ≡ Whole.roundHalfAway x ⌝ }
 {
-    math::round(x)
+    rounding::round(x)
 }
 
 #[no_mangle]
 pub extern "C" fn port_ceil(x: f64) -> f64
     ensures { λ r. ⌜ r ≡ Whole.ceil x ⌝ }
 {
-    math::ceil(x)
+    rounding::ceil(x)
 }
 
 #[no_mangle]
@@ -65,9 +66,9 @@ pub extern "C" fn port_is_effectively_zero(value: f64, scale: f64) -> bool
 
 #[no_mangle]
 pub extern "C" fn port_round_to_i32(x: f64) -> i32
-    ensures { λ r. ⌜ r ≡ Cast.roundToI32 x ⌝ }
+    ensures { λ r. ⌜ r ≡ Rounded.roundToI32 x ⌝ }
 {
-    math::round_to_i32(x)
+    rounding::round_to_i32(x)
 }
 
 #[no_mangle]

@@ -18,7 +18,7 @@ use Rattle.situation.specs.declared.party.Visibility.{Visibility}
 use Rattle.traffic.specs.declared.Entry.{Entry}
 use Rattle.rulings.specs.declared.RuledAnswer.{RuledAnswer}
 use Rattle.rulings.specs.Ruled.{ruledAnswer}
-use Rattle.codes.specs.Codes as Words
+use Rattle.codes.specs.Codes as Codes
 use Rattle.exports_avoidance.specs.Words.{permittedSides, withRate, constraintsOf, at, entries, ruledWords, ruledWith}
 
 module _ (sides : ℕ) (least most : Float) (known : ℕ) (rate : Float) (p : PermittedSides) (made : ConstraintsAnswer) where
@@ -34,17 +34,17 @@ module _ (sides : ℕ) (least most : Float) (known : ℕ) (rate : Float) (p : Pe
 
 -- ---- the ruled search
 module _ (codes count : ℕ) (floats : List Float) (a : ConstraintsAnswer) (c : ManoeuvreConstraints) (is : a ≡ Constraints.Of c) where
-  pub own-is : (own : Party) (f g h : Float) → own ≡ Words.party (codes % 8) (codes / 16 % 2) f g h → f ≡ at floats 0 → g ≡ at floats 1 → h ≡ at floats 2 → own ≡ Words.party (codes % 8) (codes / 16 % 2) (at floats 0) (at floats 1) (at floats 2)
-  own-is own f g h e ef eg eh = e ∙ ap (λ f. Words.party (codes % 8) (codes / 16 % 2) f g h) ef ∙ ap (λ g. Words.party (codes % 8) (codes / 16 % 2) (at floats 0) g h) eg ∙ ap (λ h. Words.party (codes % 8) (codes / 16 % 2) (at floats 0) (at floats 1) h) eh
+  pub own-is : (own : Party) (f g h : Float) → own ≡ Codes.party (codes % 8) (codes / 16 % 2) f g h → f ≡ at floats 0 → g ≡ at floats 1 → h ≡ at floats 2 → own ≡ Codes.party (codes % 8) (codes / 16 % 2) (at floats 0) (at floats 1) (at floats 2)
+  own-is own f g h e ef eg eh = e ∙ ap (λ f. Codes.party (codes % 8) (codes / 16 % 2) f g h) ef ∙ ap (λ g. Codes.party (codes % 8) (codes / 16 % 2) (at floats 0) g h) eg ∙ ap (λ h. Codes.party (codes % 8) (codes / 16 % 2) (at floats 0) (at floats 1) h) eh
 
   pub ruled-is : (own : Party) (n : ℕ) (es : List Entry) (v : Visibility) (w : Perhaps) (f d : Float) (r : RuledAnswer) (words : List ℕ)
-      → own ≡ Words.party (codes % 8) (codes / 16 % 2) (at floats 0) (at floats 1) (at floats 2) → n ≡ count → es ≡ entries true floats count → v ≡ Words.visibility (codes / 8 % 2) → w ≡ Words.perhaps (codes / 32 % 2) f → f ≡ at floats 3 → d ≡ at floats 4
+      → own ≡ Codes.party (codes % 8) (codes / 16 % 2) (at floats 0) (at floats 1) (at floats 2) → n ≡ count → es ≡ entries true floats count → v ≡ Codes.visibility (codes / 8 % 2) → w ≡ Codes.perhaps (codes / 32 % 2) f → f ≡ at floats 3 → d ≡ at floats 4
       → r ≡ ruledAnswer own n es v w (record { 0 = d }) c → words ≡ ruledWords r → words ≡ ruledWith a codes count floats
   ruled-is own n es v w f d r words eo en ee ev ew ef ed er e =
       e ∙ ap ruledWords (er ∙ ap (λ o. ruledAnswer o n es v w (record { 0 = d }) c) eo ∙ ap (λ n. ruledAnswer party n es v w (record { 0 = d }) c) en ∙ ap (λ l. ruledAnswer party count l v w (record { 0 = d }) c) ee
-      ∙ ap (λ v. ruledAnswer party count (entries true floats count) v w (record { 0 = d }) c) ev ∙ ap (λ w. ruledAnswer party count (entries true floats count) (Words.visibility (codes / 8 % 2)) w (record { 0 = d }) c) (ew ∙ ap (Words.perhaps (codes / 32 % 2)) ef)
-      ∙ ap (λ d. ruledAnswer party count (entries true floats count) (Words.visibility (codes / 8 % 2)) (Words.perhaps (codes / 32 % 2) (at floats 3)) (record { 0 = d }) c) ed)
+      ∙ ap (λ v. ruledAnswer party count (entries true floats count) v w (record { 0 = d }) c) ev ∙ ap (λ w. ruledAnswer party count (entries true floats count) (Codes.visibility (codes / 8 % 2)) w (record { 0 = d }) c) (ew ∙ ap (Codes.perhaps (codes / 32 % 2)) ef)
+      ∙ ap (λ d. ruledAnswer party count (entries true floats count) (Codes.visibility (codes / 8 % 2)) (Codes.perhaps (codes / 32 % 2) (at floats 3)) (record { 0 = d }) c) ed)
       ∙ ap (λ a. ruledWith a codes count floats) (sym is)
     where
       party : Party
-      party = Words.party (codes % 8) (codes / 16 % 2) (at floats 0) (at floats 1) (at floats 2)
+      party = Codes.party (codes % 8) (codes / 16 % 2) (at floats 0) (at floats 1) (at floats 2)

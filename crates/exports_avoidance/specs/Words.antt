@@ -33,8 +33,9 @@ use Rattle.avoid.specs.Avoid.{avoidAnswer}
 use Rattle.rulings.specs.declared.RuledAnswer.{RuledAnswer}
 use Rattle.rulings.specs.declared.RuledAnswer.the-variants as RuledAnswer
 use Rattle.rulings.specs.Ruled.{ruledAnswer}
-use Rattle.codes.specs.Codes as Words
-use Rattle.codes.specs.Codes.{pattern}
+use Rattle.codes.specs.Codes as Codes
+use Rattle.words.specs.Words.{pattern}
+use Rattle.words.specs.Words as Words
 
 -- ---- answers
 abbrev pub sideWord : Side → ℕ
@@ -79,14 +80,14 @@ constraintsOf sides least most known rate =
 
 -- a float of the list, 0 where there is none
 abbrev pub at : List Float → ℕ → Float
-at floats i = getD floats i Words.zero
+at floats i = getD floats i Codes.zero
 
 unfoldable pub entryAt : List Float → ℕ → Entry
 entryAt floats i =
     let code = toUsize (at floats (i + 5)) % 16 in
     record {
       contact = Words.contact (at floats i) (at floats (i + 1));
-      target = Words.party (code % 8) (code / 8) (at floats (i + 2)) (at floats (i + 3)) (at floats (i + 4));
+      target = Codes.party (code % 8) (code / 8) (at floats (i + 2)) (at floats (i + 3)) (at floats (i + 4));
     }
 
 unfoldable pub placeOf : Bool → ℕ → ℕ
@@ -116,5 +117,5 @@ ruledConstraints codes floats = constraintsOf 0 (at floats 5) (at floats 6) (cod
 
 abbrev pub ruledWith : ConstraintsAnswer → ℕ → ℕ → List Float → List ℕ
 ruledWith (Constraints.Of c) codes count floats =
-    ruledWords (ruledAnswer (Words.party (codes % 8) (codes / 16 % 2) (at floats 0) (at floats 1) (at floats 2)) count (entries true floats count) (Words.visibility (codes / 8 % 2)) (Words.perhaps (codes / 32 % 2) (at floats 3)) (record { 0 = at floats 4 }) c)
+    ruledWords (ruledAnswer (Codes.party (codes % 8) (codes / 16 % 2) (at floats 0) (at floats 1) (at floats 2)) count (entries true floats count) (Codes.visibility (codes / 8 % 2)) (Codes.perhaps (codes / 32 % 2) (at floats 3)) (record { 0 = at floats 4 }) c)
 ruledWith (Constraints.Refused why) codes count floats = refused why

@@ -12,7 +12,6 @@ use choice::Choice;
 use choice::Chosen;
 use choice::Sides;
 use clearing::MAX_CONTACTS;
-use codes::pattern;
 use elementary::error::Refusal;
 use manoeuvre::answer::AvoidanceManoeuvre;
 use manoeuvre::answer::Limiting;
@@ -29,6 +28,7 @@ use rulings::RuledManoeuvre;
 use situation::party::Party;
 use traffic::Entry;
 use traffic::Traffic;
+use words::pattern;
 
 // ---- answers as words
 fn side_word(side: Side) -> u64
@@ -182,7 +182,7 @@ fn entry_at(floats: &[f64], at: usize) -> Entry
     ensures { λ r. ⌜ r ≡ Spec.entryAt (now (floats .entry)) at ⌝ }
 {
     let code = math::to_usize(codes::float_at(floats, at + 5)) % 16;
-    let contact = codes::contact(codes::float_at(floats, at), codes::float_at(floats, at + 1));
+    let contact = words::contact(codes::float_at(floats, at), codes::float_at(floats, at + 1));
     let target = codes::party(
         (code % 8) as u32,
         (code / 8) as u32,
@@ -249,9 +249,9 @@ pub extern "C" fn avoidance_avoid(
     match constraints_of(sides, least, most, known, rate) {
         ConstraintsAnswer::Of(c) => codes::word_at(
             avoid_words(avoid::avoid(
-                codes::vessel(oc, os),
-                codes::contact(bearing, range),
-                codes::vessel(tc, ts),
+                words::vessel(oc, os),
+                words::contact(bearing, range),
+                words::vessel(tc, ts),
                 Distance(desired),
                 c,
             )),
@@ -268,7 +268,7 @@ pub extern "C" fn avoidance_search(part: u32, sides: u32, count: usize, floats: 
 {
     let may = permitted_sides(sides);
     let found = choice::smallest(
-        codes::vessel(codes::float_at(floats, 0), codes::float_at(floats, 1)),
+        words::vessel(codes::float_at(floats, 0), codes::float_at(floats, 1)),
         traffic::scene_of(traffic_of(false, count, floats)),
         codes::float_at(floats, 2) - 1e-9,
         Sides {

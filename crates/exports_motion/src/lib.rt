@@ -3,20 +3,10 @@
 ghost use mathlib.Core.Path.{_≡_};
 ghost use Rattle.relative_motion.specs.Approach as Motion;
 ghost use Rattle.relative_motion.specs.Bow as Bow;
-ghost use Rattle.course.specs.Course as Course;
-ghost use Rattle.plot.specs.Plot as Plot;
+ghost use Rattle.words.specs.Words as Shared;
 ghost use Rattle.exports_motion.specs.Words as Spec;
-use course::Alteration;
-use course::Avoidance;
-use course::CourseAnswer;
 use elementary::error::Refusal;
-use motion::units::Direction;
 use motion::units::Distance;
-use motion::units::Speed;
-use motion::vessel::Contact;
-use motion::vessel::Vessel;
-use plot::PlotAnswer;
-use plot::TargetSolution;
 use relative_motion::approach::Approach;
 use relative_motion::approach::BearingAnswer;
 use relative_motion::approach::Cpa;
@@ -24,60 +14,7 @@ use relative_motion::approach::CpaAnswer;
 use relative_motion::approach::Pass;
 use relative_motion::approach::PassAnswer;
 use relative_motion::bow::BowAnswer;
-use time::Duration;
-
-// The number of a refusal, and up to five values.
-pub struct Words {
-    pub number: u64,
-    pub first: u64,
-    pub second: u64,
-    pub third: u64,
-    pub fourth: u64,
-    pub fifth: u64,
-}
-
-fn word(w: Words, part: u32) -> u64
-    ensures { λ r. ⌜ r ≡ Spec.word w part ⌝ }
-{
-    if part == 0 {
-        return w.number;
-    }
-    if part == 1 {
-        return w.first;
-    }
-    if part == 2 {
-        return w.second;
-    }
-    if part == 3 {
-        return w.third;
-    }
-    if part == 4 {
-        return w.fourth;
-    }
-    w.fifth
-}
-
-fn pattern(x: f64) -> u64
-    ensures { λ r. ⌜ r ≡ Spec.pattern x ⌝ }
-{
-    if x == x {
-        return f64::to_bits(x);
-    }
-    9221120237041090560
-}
-
-fn refused(why: Refusal) -> Words
-    ensures { λ r. ⌜ r ≡ Spec.refused why ⌝ }
-{
-    Words {
-        number: why.number() as u64,
-        first: 0,
-        second: 0,
-        third: 0,
-        fourth: 0,
-        fifth: 0,
-    }
-}
+use words::Words;
 
 // ---- the approach: its kind (0 closing, 1 opening, 2 stationary), distance, and where it closes bearing and time
 fn closing(cpa: Cpa) -> Words
@@ -87,8 +24,8 @@ fn closing(cpa: Cpa) -> Words
     Words {
         number: 0,
         first: 0,
-        second: pattern(cpa.distance.0),
-        third: pattern(cpa.bearing.0),
+        second: words::pattern(cpa.distance.0),
+        third: words::pattern(cpa.bearing.0),
         fourth: to_go.secs,
         fifth: to_go.nanos as u64,
     }
@@ -100,7 +37,7 @@ fn passed(kind: u64, distance: Distance) -> Words
     Words {
         number: 0,
         first: kind,
-        second: pattern(distance.0),
+        second: words::pattern(distance.0),
         third: 0,
         fourth: 0,
         fifth: 0,
@@ -122,7 +59,7 @@ fn cpa_words(answer: CpaAnswer) -> Words
 {
     match answer {
         CpaAnswer::Of(a) => approach_words(a),
-        CpaAnswer::Refused(why) => refused(why),
+        CpaAnswer::Refused(why) => words::refused(why),
     }
 }
 
@@ -141,7 +78,7 @@ fn passing_words(answer: PassAnswer) -> Words
 {
     match answer {
         PassAnswer::Of(p) => pass_words(p),
-        PassAnswer::Refused(why) => refused(why),
+        PassAnswer::Refused(why) => words::refused(why),
     }
 }
 
@@ -151,7 +88,7 @@ fn value(x: f64) -> Words
 {
     Words {
         number: 0,
-        first: pattern(x),
+        first: words::pattern(x),
         second: 0,
         third: 0,
         fourth: 0,
@@ -164,7 +101,7 @@ fn bearing_words(answer: BearingAnswer) -> Words
 {
     match answer {
         BearingAnswer::Of(b) => value(b.0),
-        BearingAnswer::Refused(why) => refused(why),
+        BearingAnswer::Refused(why) => words::refused(why),
     }
 }
 
@@ -173,95 +110,11 @@ fn bow_words(answer: BowAnswer) -> Words
 {
     match answer {
         BowAnswer::Of(d) => value(d.0),
-        BowAnswer::Refused(why) => refused(why),
-    }
-}
-
-// ---- the target's course and speed, its relative course and speed, and the aspect
-fn solved(s: TargetSolution) -> Words
-    ensures { λ r. ⌜ r ≡ Spec.solved s ⌝ }
-{
-    Words {
-        number: 0,
-        first: pattern(s.vessel.course.0),
-        second: pattern(s.vessel.speed.0),
-        third: pattern(s.relative_course.0),
-        fourth: pattern(s.relative_speed.0),
-        fifth: pattern(s.aspect.0),
-    }
-}
-
-fn plot_words(answer: PlotAnswer) -> Words
-    ensures { λ r. ⌜ r ≡ Spec.plotWords answer ⌝ }
-{
-    match answer {
-        PlotAnswer::Of(s) => solved(s),
-        PlotAnswer::Refused(why) => refused(why),
-    }
-}
-
-// ---- whether there is a starboard course, and it; and the same to port
-fn presence(a: Alteration) -> u64
-    ensures { λ r. ⌜ r ≡ Spec.presence a ⌝ }
-{
-    match a {
-        Alteration::Nothing => 0,
-        Alteration::To(_) => 1,
-    }
-}
-
-fn course(a: Alteration) -> u64
-    ensures { λ r. ⌜ r ≡ Spec.course a ⌝ }
-{
-    match a {
-        Alteration::Nothing => 0,
-        Alteration::To(d) => pattern(d.0),
-    }
-}
-
-fn altered(a: Avoidance) -> Words
-    ensures { λ r. ⌜ r ≡ Spec.altered a ⌝ }
-{
-    let starboard = a.starboard;
-    let port = a.port;
-    Words {
-        number: 0,
-        first: presence(starboard),
-        second: course(starboard),
-        third: presence(port),
-        fourth: course(port),
-        fifth: 0,
-    }
-}
-
-fn course_words(answer: CourseAnswer) -> Words
-    ensures { λ r. ⌜ r ≡ Spec.courseWords answer ⌝ }
-{
-    match answer {
-        CourseAnswer::Of(a) => altered(a),
-        CourseAnswer::Refused(why) => refused(why),
+        BowAnswer::Refused(why) => words::refused(why),
     }
 }
 
 // ---- the exports
-fn vessel(course: f64, speed: f64) -> Vessel
-    ensures { λ r. ⌜ r ≡ Spec.vessel course speed ⌝ }
-{
-    Vessel {
-        course: Direction(course),
-        speed: Speed(speed),
-    }
-}
-
-fn contact(bearing: f64, range: f64) -> Contact
-    ensures { λ r. ⌜ r ≡ Spec.contact bearing range ⌝ }
-{
-    Contact {
-        bearing: Direction(bearing),
-        range: Distance(range),
-    }
-}
-
 #[no_mangle]
 pub extern "C" fn motion_cpa(
     part: u32,
@@ -272,13 +125,13 @@ pub extern "C" fn motion_cpa(
     tc: f64,
     ts: f64,
 ) -> u64
-    ensures { λ r. ⌜ r ≡ Spec.word (Spec.cpaWords (Motion.cpaAnswer (Spec.vessel oc os) (Spec.contact bearing range) (Spec.vessel tc ts))) part ⌝ }
+    ensures { λ r. ⌜ r ≡ Shared.word (Spec.cpaWords (Motion.cpaAnswer (Shared.vessel oc os) (Shared.contact bearing range) (Shared.vessel tc ts))) part ⌝ }
 {
-    word(
+    words::word(
         cpa_words(relative_motion::approach::closest_point_of_approach(
-            vessel(oc, os),
-            contact(bearing, range),
-            vessel(tc, ts),
+            words::vessel(oc, os),
+            words::contact(bearing, range),
+            words::vessel(tc, ts),
         )),
         part,
     )
@@ -294,13 +147,13 @@ pub extern "C" fn motion_passing(
     tc: f64,
     ts: f64,
 ) -> u64
-    ensures { λ r. ⌜ r ≡ Spec.word (Spec.passingWords (Motion.passingAnswer (Spec.vessel oc os) (Spec.contact bearing range) (Spec.vessel tc ts))) part ⌝ }
+    ensures { λ r. ⌜ r ≡ Shared.word (Spec.passingWords (Motion.passingAnswer (Shared.vessel oc os) (Shared.contact bearing range) (Shared.vessel tc ts))) part ⌝ }
 {
-    word(
+    words::word(
         passing_words(relative_motion::approach::passing(
-            vessel(oc, os),
-            contact(bearing, range),
-            vessel(tc, ts),
+            words::vessel(oc, os),
+            words::contact(bearing, range),
+            words::vessel(tc, ts),
         )),
         part,
     )
@@ -308,12 +161,12 @@ pub extern "C" fn motion_passing(
 
 #[no_mangle]
 pub extern "C" fn motion_bearing(part: u32, oc: f64, os: f64, bearing: f64, range: f64) -> u64
-    ensures { λ r. ⌜ r ≡ Spec.word (Spec.bearingWords (Motion.bearingAnswer (Spec.vessel oc os) (Spec.contact bearing range))) part ⌝ }
+    ensures { λ r. ⌜ r ≡ Shared.word (Spec.bearingWords (Motion.bearingAnswer (Shared.vessel oc os) (Shared.contact bearing range))) part ⌝ }
 {
-    word(
+    words::word(
         bearing_words(relative_motion::approach::relative_bearing_of(
-            vessel(oc, os),
-            contact(bearing, range),
+            words::vessel(oc, os),
+            words::contact(bearing, range),
         )),
         part,
     )
@@ -329,66 +182,13 @@ pub extern "C" fn motion_bow(
     tc: f64,
     ts: f64,
 ) -> u64
-    ensures { λ r. ⌜ r ≡ Spec.word (Spec.bowWords (Bow.bowAnswer (Spec.vessel oc os) (Spec.contact bearing range) (Spec.vessel tc ts))) part ⌝ }
+    ensures { λ r. ⌜ r ≡ Shared.word (Spec.bowWords (Bow.bowAnswer (Shared.vessel oc os) (Shared.contact bearing range) (Shared.vessel tc ts))) part ⌝ }
 {
-    word(
+    words::word(
         bow_words(relative_motion::bow::bow_crossing_range(
-            vessel(oc, os),
-            contact(bearing, range),
-            vessel(tc, ts),
-        )),
-        part,
-    )
-}
-
-#[no_mangle]
-pub extern "C" fn motion_course(
-    part: u32,
-    oc: f64,
-    os: f64,
-    bearing: f64,
-    range: f64,
-    tc: f64,
-    ts: f64,
-    desired: f64,
-) -> u64
-    ensures { λ r. ⌜ r ≡ Spec.word (Spec.courseWords (Course.courseAnswer (Spec.vessel oc os) (Spec.contact bearing range) (Spec.vessel tc ts) (Spec.distance desired))) part ⌝ }
-{
-    word(
-        course_words(course::course_for_cpa(
-            vessel(oc, os),
-            contact(bearing, range),
-            vessel(tc, ts),
-            Distance(desired),
-        )),
-        part,
-    )
-}
-
-#[no_mangle]
-pub extern "C" fn motion_plot(
-    part: u32,
-    oc: f64,
-    os: f64,
-    b1: f64,
-    r1: f64,
-    b2: f64,
-    r2: f64,
-    secs: u64,
-    nanos: u32,
-) -> u64
-    ensures { λ r. ⌜ r ≡ Spec.word (Spec.plotWords (Plot.plotAnswer (Spec.vessel oc os) (Spec.contact b1 r1) (Spec.contact b2 r2) (Spec.elapsed secs nanos))) part ⌝ }
-{
-    let elapsed = Duration {
-        secs: secs,
-        nanos: nanos,
-    };
-    word(
-        plot_words(plot::target_from_plot(
-            vessel(oc, os),
-            contact(b1, r1),
-            contact(b2, r2),
-            elapsed,
+            words::vessel(oc, os),
+            words::contact(bearing, range),
+            words::vessel(tc, ts),
         )),
         part,
     )

@@ -26,13 +26,13 @@ use Rattle.series.specs.Taylor.{sineDivisors}
 use Rattle.series.specs.Units.{horner, square, sineUnits}
 use Rattle.circular.specs.Sine.{tiny, scaled}
 use Rattle.circular.specs.Sine as circular
-use Rattle.arcs.specs.Grid.{lastStep, sineStep}
-use Rattle.arcs.specs.Arcsine.{halfPiSteps, arcsineUnits}
-use Rattle.arcs.specs.Enclosure.{IsArcsine}
-use Rattle.arcs.proofs.Arcsines.{is-arcsine}
-use Rattle.arcs.proofs.Rescaling.{same-arcsine}
-use Rattle.arcs.proofs.Scaling.{arcsine-most}
-use Rattle.arcs.proofs.Surrounding.{arcsine-surrounded, small-surrounded}
+use Rattle.grid.specs.Grid.{lastStep, sineStep}
+use Rattle.grid.specs.Arcsine.{halfPiSteps, arcsineUnits}
+use Rattle.grid.specs.Enclosure.{IsArcsine}
+use Rattle.grid.proofs.Arcsines.{is-arcsine}
+use Rattle.grid.proofs.Rescaling.{same-arcsine}
+use Rattle.grid.proofs.Scaling.{arcsine-most}
+use Rattle.grid.proofs.Surrounding.{arcsine-surrounded, small-surrounded}
 use Rattle.inverse.specs.Asin.{zero, one, inDomain, asin, Encloses, IsAsin}
 
 -- ---- the domain

@@ -21,14 +21,14 @@ use Rattle.laws.proofs.Units.{form, own-units, units-are, finite-of-units}
 use Rattle.math.specs.Sign.{abs}
 use Rattle.math.proofs.Sign.{units-of-abs}
 use Rattle.series.specs.Angle.{halfPi, whole}
-use Rattle.arcs.specs.Grid.{lastStep}
-use Rattle.arcs.specs.Arcsine.{halfPiSteps}
-use Rattle.arcs.specs.Arctangent.{arctangentSteps, placed}
-use Rattle.arcs.specs.Enclosure.{IsArctangent}
-use Rattle.arcs.proofs.Arctangents.{is-arctangent}
-use Rattle.arcs.proofs.Octant.{arctangent-found}
-use Rattle.arcs.proofs.Placing.{Around, across, along, arctangent-around}
-use Rattle.arcs.proofs.Rescaling.{same-arctangent, same-point}
+use Rattle.grid.specs.Grid.{lastStep}
+use Rattle.grid.specs.Arcsine.{halfPiSteps}
+use Rattle.grid.specs.Arctangent.{arctangentSteps, placed}
+use Rattle.grid.specs.Enclosure.{IsArctangent}
+use Rattle.grid.proofs.Arctangents.{is-arctangent}
+use Rattle.grid.proofs.Octant.{arctangent-found}
+use Rattle.grid.proofs.Placing.{Around, across, along, arctangent-around}
+use Rattle.grid.proofs.Rescaling.{same-arctangent, same-point}
 use Rattle.inverse.specs.Asin.{zero}
 use Rattle.inverse.specs.Atan2.{scaledBy, octant, angleSteps, bothFinite, atan2, IsAngle, IsAtan2}
 use Rattle.inverse.proofs.Octants.{scaled-exact, scaled-least}

@@ -8,7 +8,7 @@ use lib.Ieee.{size}
 use lib.Ieee.Digits.{size-lt, size-reaches, size-le}
 use lib.Ieee.Nearest.{div-same}
 use Rattle.laws.proofs.Numbers.{sub-add, le-by}
-use Rattle.arcs.specs.Arctangent.{arctangentSteps}
+use Rattle.grid.specs.Arctangent.{arctangentSteps}
 use Rattle.inverse.specs.Atan2.{scaledBy, octant}
 
 -- ---- how many digits

@@ -8,8 +8,8 @@ use lib.Ieee.Scale.{finite}
 use Rattle.laws.specs.Units.{unitsOf}
 use Rattle.series.specs.Angle.{halfPi, whole}
 use Rattle.circular.specs.Sine.{tiny, scaled}
-use Rattle.arcs.specs.Arcsine.{arcsineUnits}
-use Rattle.arcs.specs.Enclosure.{IsArcsine}
+use Rattle.grid.specs.Arcsine.{arcsineUnits}
+use Rattle.grid.specs.Enclosure.{IsArcsine}
 
 abbrev pub zero : Float
 zero = ofBits binary64 0

@@ -7,9 +7,9 @@ use lib.Ieee.{Float, nan, binary64, fits, round, lt, size}
 use lib.Ieee.Scale.{finite}
 use Rattle.laws.specs.Units.{sign, unitsOf}
 use Rattle.series.specs.Angle.{halfPi, whole}
-use Rattle.arcs.specs.Arcsine.{halfPiSteps}
-use Rattle.arcs.specs.Arctangent.{arctangentSteps, placed}
-use Rattle.arcs.specs.Enclosure.{IsArctangent}
+use Rattle.grid.specs.Arcsine.{halfPiSteps}
+use Rattle.grid.specs.Arctangent.{arctangentSteps, placed}
+use Rattle.grid.specs.Enclosure.{IsArctangent}
 use Rattle.inverse.specs.Asin.{zero}
 
 -- a, scaled by the power of two that gives `larger` 58 digits, and cut

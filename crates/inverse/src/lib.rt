@@ -8,8 +8,8 @@ ghost use lib.Ieee.{binary64, round};
 ghost use lib.Ieee.Scale.{finite};
 ghost use Rattle.laws.specs.Units as Size;
 ghost use Rattle.circular.specs.Sine as Sine;
-ghost use Rattle.arcs.specs.Grid.{lastStep};
-ghost use Rattle.arcs.specs.Arctangent as Arctangent;
+ghost use Rattle.grid.specs.Grid.{lastStep};
+ghost use Rattle.grid.specs.Arctangent as Arctangent;
 ghost use Rattle.inverse.specs.Asin.{asin};
 ghost use Rattle.inverse.specs.Atan2 as Atan2;
 

@@ -2,4 +2,3 @@
 pub mod Cast
 pub mod Convert
 pub mod Sign
-pub mod Whole

@@ -3,4 +3,3 @@ pub mod Cast
 pub mod Convert
 pub mod Sign
 pub mod Test
-pub mod Whole

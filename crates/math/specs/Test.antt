@@ -1,12 +1,7 @@
 -- The tests of math.rs, operation by operation.
 use mathlib.Core.Bool.{Bool}
-use lib.Ieee.{Float, binary64, eq, le, mul, ofBits}
+use lib.Ieee.{Float, binary64, le, mul, ofBits}
 use Rattle.math.specs.Sign.{abs}
-use Rattle.math.specs.Whole.{trunc}
-
-unfoldable pub isIntegral : Float → Bool
-unfolding trunc
-isIntegral x = eq x (trunc x)
 
 -- 1e-12
 abbrev pub relativeTolerance : Float

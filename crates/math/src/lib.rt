@@ -1,6 +1,6 @@
-// The helpers of math.rs that the encounter module leans on: conversions between degrees and radians, rounding to whole
-// numbers, tests, and casts. Each takes any f64, NaN and infinities included. The six elementary functions stand in crates
-// of their own.
+// The helpers of math.rs that the encounter module leans on: conversions between degrees and radians, signs, tests,
+// and casts. Each takes any f64, NaN and infinities included. Rounding to whole numbers and the six elementary functions stand
+// in crates of their own.
 ghost use mathlib.Core.Path.{_≡_};
 ghost use lib.Ieee as Ieee;
 ghost use lib.Ieee.{binary64};
@@ -8,15 +8,11 @@ ghost use lib.Ieee.Scale.{finite};
 ghost use lib.IntN.{pos};
 ghost use Rattle.math.specs.Convert.{toRadians, toDegrees};
 ghost use Rattle.math.specs.Sign as Sign;
-ghost use Rattle.math.specs.Whole as Whole;
 ghost use Rattle.math.specs.Cast as Cast;
 ghost use Rattle.math.specs.Test as Test;
 
 // The weight of an f64's sign bit: 2^63.
 const SIGN_BIT: u64 = 9223372036854775808;
-
-// From here on every f64 is a whole number: 2^52.
-const ALL_WHOLE: f64 = 4503599627370496.0;
 
 // Degrees in a radian, as math.rs has them.
 pub const DEGREES_PER_RADIAN: f64 = 180.0 / 3.141592653589793;
@@ -76,71 +72,11 @@ pub fn copysign(magnitude: f64, sign: f64) -> f64
     a
 }
 
-// The whole part, towards zero.
-pub fn trunc(x: f64) -> f64
-    ensures { λ r. ⌜ r ≡ Whole.trunc x ⌝ }
-{
-    let a = abs(x);
-    if a < ALL_WHOLE {
-        let n = std::num::truncating_f64_to_u64(a);
-        return copysign(n as f64, x);
-    }
-    x
-}
-
-// The nearest whole number, halves away from zero.
-pub fn round(x: f64) -> f64
-    ensures { λ r. ⌜ r ≡ Whole.roundHalfAway x ⌝ }
-{
-    let a = abs(x);
-    if a < ALL_WHOLE {
-        let n = std::num::truncating_f64_to_u64(a * 2.0);
-        let m = (n + 1) / 2;
-        return copysign(m as f64, x);
-    }
-    x
-}
-
-// The least whole number that is not below x.
-pub fn ceil(x: f64) -> f64
-    ensures { λ r. ⌜ r ≡ Whole.ceil x ⌝ }
-{
-    let t = trunc(x);
-    if t < x {
-        return t + 1.0;
-    }
-    t
-}
-
-// Whether x is a whole number.
-pub fn is_integral(x: f64) -> bool
-    ensures { λ r. ⌜ r ≡ Test.isIntegral x ⌝ }
-{
-    x == trunc(x)
-}
-
 // Whether a value is zero relative to `scale`, the magnitude of its operands.
 pub fn is_effectively_zero(value: f64, scale: f64) -> bool
     ensures { λ r. ⌜ r ≡ Test.isEffectivelyZero value scale ⌝ }
 {
     abs(value) <= abs(scale) * RELATIVE_TOLERANCE
-}
-
-// The nearest whole number as an i32, 0 where it is out of range or not a number.
-pub fn round_to_i32(value: f64) -> i32
-    ensures { λ r. ⌜ r ≡ Cast.roundToI32 value ⌝ }
-{
-    let rounded = round(value);
-    if rounded > 2147483647.0 {
-        return 0;
-    }
-    if rounded < -2147483648.0 {
-        return 0;
-    }
-    if rounded == rounded {
-        return std::num::truncating_f64_to_i64(rounded) as i32;
-    }
-    0
 }
 
 // The whole part of a value from 0 to 10^9, and 0 for any other.

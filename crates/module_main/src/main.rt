@@ -71,10 +71,10 @@ fn answer(record: &[u8; 128]) -> u64 {
         2 => {
             let secs = word(record, 64);
             let nanos = (word(record, 72) % 4294967296) as u32;
-            exports_motion::motion_plot(part, oc, os, bearing, range, tc, ts, secs, nanos)
+            exports_course::motion_plot(part, oc, os, bearing, range, tc, ts, secs, nanos)
         }
         3 => exports_motion::motion_bow(part, oc, os, bearing, range, tc, ts),
-        4 => exports_motion::motion_course(
+        4 => exports_course::motion_course(
             part,
             oc,
             os,

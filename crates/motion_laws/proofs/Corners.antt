@@ -18,10 +18,10 @@ use Rattle.series.specs.Angle.{distance, quarters, even, negative}
 use Rattle.series.specs.Units.{horner, square, sineUnits, cosineUnits, removed, rest, turnedMinus, turnedUnits}
 use Rattle.circular.specs.Sine.{sin, cos}
 use Rattle.circular.specs.Sine as circular
-use Rattle.arcs.specs.Search.{greatest, upTo, greatestTo}
-use Rattle.arcs.specs.Grid.{sineStep, cosineStep}
-use Rattle.arcs.specs.Arcsine as arcsine
-use Rattle.arcs.specs.Arctangent.{notAbove, arctangentSteps, placed}
+use Rattle.grid.specs.Search.{greatest, upTo, greatestTo}
+use Rattle.grid.specs.Grid.{sineStep, cosineStep}
+use Rattle.grid.specs.Arcsine as arcsine
+use Rattle.grid.specs.Arctangent.{notAbove, arctangentSteps, placed}
 use Rattle.inverse.specs.Asin as asin
 use Rattle.inverse.specs.Atan2.{scaledBy, octant, angleSteps, bothFinite, atan2}
 use Rattle.elementary.specs.Range.{inRange}

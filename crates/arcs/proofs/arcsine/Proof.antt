@@ -1,6 +1,6 @@
-use Rattle.arcs.specs.Arcsine.{arcsineSteps}
+use Rattle.grid.specs.Arcsine.{arcsineSteps}
 use native.Mathlib.Omega.{arith}
-use Rattle.arcs.proofs.Scaling.{low-case, high-case, top-case}
+use Rattle.grid.proofs.Scaling.{low-case, high-case, top-case}
 use borrow.Author.Needs.{needs}
 use Rattle.arcs.proofs.arcsine.Statement.{statement}
 use Rattle.arcs.proofs.arcsine.Tie as tie

@@ -1,5 +1,5 @@
-use Rattle.arcs.specs.Arctangent.{arctangentSteps}
-use Rattle.arcs.specs.Grid.{lastStep}
+use Rattle.grid.specs.Arctangent.{arctangentSteps}
+use Rattle.grid.specs.Grid.{lastStep}
 use Prim.Native.Nat.{_≤_}
 use mathlib.Core.Path.{sym, subst}
 use Rattle.arcs.proofs.Checks.{tangent-within as named}

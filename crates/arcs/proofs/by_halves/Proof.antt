@@ -1,8 +1,8 @@
 use Prim.Native.Nat.{_+_, _^_, _≤_}
 use mathlib.Core.Path.{_≡_, refl}
-use Rattle.arcs.proofs.Searching.{halved, turned}
-use Rattle.arcs.specs.Search.{greatest, upTo, greatestTo}
-use Rattle.arcs.specs.Grid.{lastStep}
+use Rattle.grid.proofs.Searching.{halved, turned}
+use Rattle.grid.specs.Search.{greatest, upTo, greatestTo}
+use Rattle.grid.specs.Grid.{lastStep}
 use Rattle.arcs.specs.Goal.{test}
 use Rattle.arcs.proofs.Checks.{begins, kept, passed-over}
 use native.Mathlib.Omega.{arith}

@@ -1,4 +1,4 @@
-use Rattle.arcs.specs.Grid.{cosineStep}
+use Rattle.grid.specs.Grid.{cosineStep}
 use native.Mathlib.Omega.{arith}
 use borrow.Author.Needs.{needs}
 use Rattle.arcs.proofs.cosine_at.Statement.{statement}

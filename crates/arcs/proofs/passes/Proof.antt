@@ -1,4 +1,4 @@
-use Rattle.arcs.specs.Arcsine.{atMost, fitsIn}
+use Rattle.grid.specs.Arcsine.{atMost, fitsIn}
 use Prim.Native.Nat.{_*_}
 use lib.Dec.{leb}
 use mathlib.Core.Path.{sym, ap, _∙_, subst}

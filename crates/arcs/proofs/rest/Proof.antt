@@ -1,5 +1,5 @@
-use Rattle.arcs.specs.Arcsine.{upperSteps}
-use Rattle.arcs.proofs.Scaling.{fit, rest-of, rest-small}
+use Rattle.grid.specs.Arcsine.{upperSteps}
+use Rattle.grid.proofs.Scaling.{fit, rest-of, rest-small}
 use borrow.Author.Needs.{needs}
 use Rattle.arcs.proofs.rest.Statement.{statement}
 use Rattle.arcs.proofs.rest.Tie as tie

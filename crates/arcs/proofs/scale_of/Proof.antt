@@ -1,8 +1,8 @@
-use Rattle.arcs.specs.Arcsine.{scaleFrom, scale}
+use Rattle.grid.specs.Arcsine.{scaleFrom, scale}
 use Prim.Native.Nat.{_*_, _^_, _≤_}
 use mathlib.Core.Path.{_≡_}
 use native.Mathlib.Omega.{arith}
-use Rattle.arcs.proofs.Scaling.{scale-begins, scale-here, scale-more, scale-ends}
+use Rattle.grid.proofs.Scaling.{scale-begins, scale-here, scale-more, scale-ends}
 use Rattle.arcs.proofs.scale_of.Statement.{statement}
 use Rattle.arcs.proofs.scale_of.Tie as tie
 

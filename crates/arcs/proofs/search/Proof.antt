@@ -1,5 +1,5 @@
 use Rattle.arcs.specs.Goal.{test}
-use Rattle.arcs.specs.Grid.{lastStep}
+use Rattle.grid.specs.Grid.{lastStep}
 use mathlib.Core.Path.{sym, subst}
 use Prim.Native.Nat.{_≤_}
 use native.Mathlib.Nat.{le-of-lt}

@@ -1,5 +1,5 @@
-use Rattle.arcs.specs.Search.{Found}
-use Rattle.arcs.specs.Grid.{lastStep}
+use Rattle.grid.specs.Search.{Found}
+use Rattle.grid.specs.Grid.{lastStep}
 use mathlib.Core.Path.{sym, subst}
 use Rattle.arcs.specs.Goal.{test, Small}
 use borrow.Author.Needs.{needs}

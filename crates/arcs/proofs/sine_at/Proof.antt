@@ -1,4 +1,4 @@
-use Rattle.arcs.specs.Grid.{sineStep}
+use Rattle.grid.specs.Grid.{sineStep}
 use native.Mathlib.Omega.{arith}
 use borrow.Author.Needs.{needs}
 use Rattle.arcs.proofs.sine_at.Statement.{statement}

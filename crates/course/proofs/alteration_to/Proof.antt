@@ -1,3 +1,4 @@
+use mathlib.Core.Path.{refl}
 use Rattle.course.specs.Course.{alterationTo}
 use borrow.Author.Needs.{needs}
 use Rattle.course.proofs.alteration_to.Statement.{statement}
@@ -16,7 +17,7 @@ returns : tie.Need-returns
 returns c = search needs
 
 returns-2 : tie.Need-returns-2
-returns-2 c = cc
+returns-2 c = rw (c .before .before .best .given .1, c .from-degrees-wrapped .ensures) refl
 
 pub alteration-to-spec : {M : Type 1} → statement M
 alteration-to-spec =

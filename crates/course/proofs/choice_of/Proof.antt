@@ -1,3 +1,4 @@
+use mathlib.Core.Path.{refl}
 use Rattle.course.specs.Course.{choiceOf}
 use borrow.Author.Needs.{needs}
 use Rattle.course.proofs.choice_of.Statement.{statement}
@@ -17,7 +18,7 @@ along-requires-2 c κs = search needs
 
 returns : tie.Need-returns
 unfolding choiceOf
-returns c = cc
+returns c = rw (c .along2 .ensures, c .before .along .ensures, c .before .before .velocity .ensures, c .before .before .before .before .grazing .ensures) refl
 
 pub choice-of-spec : {M : Type 1} → statement M
 choice-of-spec =

@@ -1,3 +1,4 @@
+use mathlib.Core.Path.{refl}
 use Rattle.course.specs.Course.{grazing}
 use borrow.Author.Needs.{needs}
 use Rattle.course.proofs.grazing.Statement.{statement}
@@ -14,7 +15,7 @@ to-degrees-requires c κs = search needs
 
 returns : tie.Need-returns
 unfolding grazing
-returns c = cc
+returns c = rw (c .to-degrees .ensures, c .before .asin .ensures, c .before .before .clamped .ensures) refl
 
 pub grazing-spec : {M : Type 1} → statement M
 grazing-spec = tie.close (tie.spec clamped-requires asin-requires to-degrees-requires returns)

@@ -1,3 +1,4 @@
+use mathlib.Core.Path.{refl}
 use Rattle.exports_motion.specs.Words.{closing}
 use borrow.Author.Needs.{needs}
 use Rattle.exports_motion.proofs.closing.Statement.{statement}
@@ -14,7 +15,7 @@ cast-t5 c = search needs
 
 returns : tie.Need-returns
 unfolding closing
-returns c = cc
+returns c = rw (c .before .pattern2 .ensures, c .before .before .pattern .ensures) refl
 
 pub closing-spec : {M : Type 1} → statement M
 closing-spec = tie.close (tie.spec pattern-requires pattern-requires-2 cast-t5 returns)

@@ -1,3 +1,4 @@
+use mathlib.Core.Path.{refl}
 use borrow.Author.Needs.{needs}
 use Rattle.exports_motion.proofs.motion_bearing.Statement.{statement}
 use Rattle.exports_motion.proofs.motion_bearing.Tie as tie
@@ -18,7 +19,7 @@ word-requires : tie.Need-word-requires
 word-requires c κs = search needs
 
 returns : tie.Need-returns
-returns c = cc
+returns c = rw (c .word .ensures, c .before .bearing-words .ensures, c .before .before .relative-bearing-of .ensures, c .before .before .before .contact .ensures, c .before .before .before .before .vessel .ensures) refl
 
 pub motion-bearing-spec : {M : Type 1} → statement M
 motion-bearing-spec =

@@ -1,3 +1,4 @@
+use mathlib.Core.Path.{refl}
 use borrow.Author.Needs.{needs}
 use Rattle.exports_motion.proofs.motion_passing.Statement.{statement}
 use Rattle.exports_motion.proofs.motion_passing.Tie as tie
@@ -21,7 +22,7 @@ word-requires : tie.Need-word-requires
 word-requires c κs = search needs
 
 returns : tie.Need-returns
-returns c = cc
+returns c = rw (c .word .ensures, c .before .passing-words .ensures, c .before .before .passing .ensures, c .before .before .before .vessel2 .ensures, c .before .before .before .before .contact .ensures, c .before .before .before .before .before .vessel .ensures) refl
 
 pub motion-passing-spec : {M : Type 1} → statement M
 motion-passing-spec =

@@ -1,3 +1,4 @@
+use mathlib.Core.Path.{refl}
 use Rattle.exports_motion.specs.Words.{passed}
 use borrow.Author.Needs.{needs}
 use Rattle.exports_motion.proofs.passed.Statement.{statement}
@@ -8,7 +9,7 @@ pattern-requires c κs = search needs
 
 returns : tie.Need-returns
 unfolding passed
-returns c = cc
+returns c = rw (c .pattern .ensures) refl
 
 pub passed-spec : {M : Type 1} → statement M
 passed-spec = tie.close (tie.spec pattern-requires returns)

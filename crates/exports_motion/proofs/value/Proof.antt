@@ -1,3 +1,4 @@
+use mathlib.Core.Path.{refl}
 use Rattle.exports_motion.specs.Words.{value}
 use borrow.Author.Needs.{needs}
 use Rattle.exports_motion.proofs.value.Statement.{statement}
@@ -8,7 +9,7 @@ pattern-requires c κs = search needs
 
 returns : tie.Need-returns
 unfolding value
-returns c = cc
+returns c = rw (c .pattern .ensures) refl
 
 pub value-spec : {M : Type 1} → statement M
 value-spec = tie.close (tie.spec pattern-requires returns)

@@ -1,3 +1,4 @@
+use mathlib.Core.Path.{refl}
 use Rattle.exports_ruling.specs.Words.{config}
 use borrow.Author.Needs.{needs}
 use Rattle.exports_ruling.proofs.colregs_ruling.Statement.{statement}
@@ -17,7 +18,7 @@ word-requires c κs = search needs
 
 returns : tie.Need-returns
 unfolding config
-returns c = cc
+returns c = rw (c .word .ensures, c .before .ruling-words .ensures, c .before .before .rule-of-the-road .ensures, c .before .before .before .situation .ensures) refl
 
 pub colregs-ruling-spec : {M : Type 1} → statement M
 colregs-ruling-spec =

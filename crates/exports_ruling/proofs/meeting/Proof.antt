@@ -1,3 +1,4 @@
+use mathlib.Core.Path.{refl}
 use Rattle.exports_ruling.specs.Words.{contact, meeting}
 use borrow.Author.Needs.{needs}
 use Rattle.exports_ruling.proofs.meeting.Statement.{statement}
@@ -11,7 +12,7 @@ new-requires c κs = search needs
 
 returns : tie.Need-returns
 unfolding meeting contact
-returns c = cc
+returns c = rw (c .new .ensures, c .before .visibility .ensures) refl
 
 pub meeting-spec : {M : Type 1} → statement M
 meeting-spec = tie.close (tie.spec visibility-requires new-requires returns)

@@ -1,3 +1,4 @@
+use mathlib.Core.Path.{refl}
 use Rattle.exports_ruling.specs.Words.{refused}
 use borrow.Author.Needs.{needs}
 use Rattle.exports_ruling.proofs.refused.Statement.{statement}
@@ -11,7 +12,7 @@ cast-t3 c = search needs
 
 returns : tie.Need-returns
 unfolding refused
-returns c = cc
+returns c = rw (c .number .ensures) refl
 
 pub refused-spec : {M : Type 1} → statement M
 refused-spec = tie.close (tie.spec number-requires cast-t3 returns)

@@ -1,3 +1,4 @@
+use mathlib.Core.Path.{refl}
 use Rattle.exports_ruling.specs.Words.{ruled}
 use borrow.Author.Needs.{needs}
 use Rattle.exports_ruling.proofs.ruled.Statement.{statement}
@@ -29,7 +30,7 @@ flag-requires-4 c κs = search needs
 
 returns : tie.Need-returns
 unfolding ruled
-returns c = cc
+returns c = rw (c .flag4 .ensures, c .before .flag3 .ensures, c .before .before .flag2 .ensures, c .before .before .before .flag .ensures, c .before .before .before .before .number .ensures, c .before .before .before .before .before .responsibility-code .ensures, c .before .before .before .before .before .before .encounter-code .ensures) refl
 
 pub ruled-spec : {M : Type 1} → statement M
 ruled-spec =

@@ -1,3 +1,4 @@
+use mathlib.Core.Path.{refl}
 use Rattle.exports_ruling.specs.Words.{situation}
 use borrow.Author.Needs.{needs}
 use Rattle.exports_ruling.proofs.situation.Statement.{statement}
@@ -17,7 +18,7 @@ with-wind-requires c κs = search needs
 
 returns : tie.Need-returns
 unfolding situation
-returns c = cc
+returns c = rw (c .with-wind .ensures, c .before .meeting .ensures, c .before .before .party2 .ensures, c .before .before .before .party .ensures) refl
 
 pub situation-spec : {M : Type 1} → statement M
 situation-spec =

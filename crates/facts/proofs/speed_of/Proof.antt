@@ -1,3 +1,4 @@
+use mathlib.Core.Path.{refl}
 use Rattle.facts.specs.Facts.{speedOf}
 use borrow.Author.Needs.{needs}
 use Rattle.facts.proofs.speed_of.Statement.{statement}
@@ -8,7 +9,7 @@ hypot-requires c κs = search needs
 
 returns : tie.Need-returns
 unfolding speedOf
-returns c = cc
+returns c = rw (c .hypot .ensures) refl
 
 pub speed-of-spec : {M : Type 1} → statement M
 speed-of-spec = tie.close (tie.spec hypot-requires returns)

@@ -1,5 +1,5 @@
 use Rattle.inverse.proofs.Arctangents.{is-zero, not-zero, is-below, flat-case, upright-case, steep-case, low-case}
-use Rattle.arcs.specs.Arcsine.{halfPiSteps}
+use Rattle.grid.specs.Arcsine.{halfPiSteps}
 use Rattle.laws.proofs.Bools.{holds}
 use Rattle.laws.specs.Units.{unitsOf}
 use native.Mathlib.Nat.{le-of-lt}

@@ -1,4 +1,4 @@
-use Rattle.arcs.specs.Arctangent.{placed}
+use Rattle.grid.specs.Arctangent.{placed}
 use native.Mathlib.Omega.{arith}
 use mathlib.Core.Path.{refl}
 use borrow.Author.Needs.{needs}

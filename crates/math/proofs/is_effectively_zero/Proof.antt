@@ -1,3 +1,4 @@
+use mathlib.Core.Path.{refl}
 use Rattle.math.specs.Test.{isEffectivelyZero}
 use borrow.Author.Needs.{needs}
 use Rattle.math.proofs.is_effectively_zero.Statement.{statement}
@@ -11,7 +12,7 @@ abs-requires-2 c κs = search needs
 
 returns : tie.Need-returns
 unfolding isEffectivelyZero
-returns c = cc
+returns c = rw (c .abs2 .ensures, c .before .abs .ensures) refl
 
 pub is-effectively-zero-spec : {M : Type 1} → statement M
 is-effectively-zero-spec = tie.close (tie.spec abs-requires abs-requires-2 returns)

@@ -1,3 +1,4 @@
+use mathlib.Core.Path.{refl}
 use Rattle.plot.specs.Plot.{plotVerdict, plotChecks}
 use Rattle.arguments.specs.Check.{verdict}
 use borrow.Author.Needs.{needs}
@@ -21,7 +22,7 @@ check-vessel-requires c κs = search needs
 
 returns : tie.Need-returns
 unfolding plotVerdict plotChecks verdict
-returns c = cc
+returns c = rw (c .check-vessel .ensures, c .before .check-contact2 .ensures, c .before .before .check-contact .ensures, c .before .before .before .unless .ensures, c .before .before .before .before .is-accepted .ensures) refl
 
 pub check-plots-spec : {M : Type 1} → statement M
 check-plots-spec =

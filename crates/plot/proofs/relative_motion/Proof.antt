@@ -1,3 +1,4 @@
+use mathlib.Core.Path.{refl}
 use Rattle.plot.specs.Plot.{relativeMotion}
 use borrow.Author.Needs.{needs}
 use Rattle.plot.proofs.relative_motion.Statement.{statement}
@@ -14,7 +15,7 @@ difference-requires c κs = search needs
 
 returns : tie.Need-returns
 unfolding relativeMotion
-returns c = cc
+returns c = rw (c .before .before .difference .ensures, c .before .before .before .offset2 .ensures, c .before .before .before .before .offset .ensures) refl
 
 pub relative-motion-spec : {M : Type 1} → statement M
 relative-motion-spec =

@@ -1,3 +1,4 @@
+use mathlib.Core.Path.{refl}
 use Rattle.plot.specs.Plot.{solution}
 use borrow.Author.Needs.{needs}
 use Rattle.plot.proofs.solution.Statement.{statement}
@@ -20,7 +21,7 @@ wrap180-requires c κs = search needs
 
 returns : tie.Need-returns
 unfolding solution
-returns c = cc
+returns c = rw (c .wrap180 .ensures, c .before .before .hypot .ensures, c .before .before .before .direction-of .ensures, c .before .before .before .before .reciprocal .ensures, c .before .before .before .before .before .target-of .ensures) refl
 
 pub solution-spec : {M : Type 1} → statement M
 solution-spec =

@@ -1,3 +1,4 @@
+use mathlib.Core.Path.{refl}
 use Rattle.plot.specs.Plot.{targetOf}
 use borrow.Author.Needs.{needs}
 use Rattle.plot.proofs.target_of.Statement.{statement}
@@ -11,7 +12,7 @@ from-velocity-requires c κs = search needs
 
 returns : tie.Need-returns
 unfolding targetOf
-returns c = cc
+returns c = rw (c .from-velocity .ensures, c .before .before .before .before .before .velocity .ensures) refl
 
 pub target-of-spec : {M : Type 1} → statement M
 target-of-spec = tie.close (tie.spec velocity-requires from-velocity-requires returns)

@@ -1,3 +1,4 @@
+use mathlib.Core.Path.{refl}
 use Rattle.motion.specs.Vessel.{directionOf}
 use borrow.Author.Needs.{needs}
 use Rattle.motion.proofs.vessel.direction_of.Statement.{statement}
@@ -14,7 +15,7 @@ from-degrees-wrapped-requires c κs = search needs
 
 returns : tie.Need-returns
 unfolding directionOf
-returns c = cc
+returns c = rw (c .from-degrees-wrapped .ensures, c .before .to-degrees .ensures, c .before .before .atan2 .ensures) refl
 
 pub direction-of-spec : {M : Type 1} → statement M
 direction-of-spec =

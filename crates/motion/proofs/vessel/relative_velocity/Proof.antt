@@ -1,3 +1,4 @@
+use mathlib.Core.Path.{refl}
 use Rattle.motion.specs.Vessel.{relativeVelocity}
 use borrow.Author.Needs.{needs}
 use Rattle.motion.proofs.vessel.relative_velocity.Statement.{statement}
@@ -14,7 +15,7 @@ difference-requires c κs = search needs
 
 returns : tie.Need-returns
 unfolding relativeVelocity
-returns c = cc
+returns c = rw (c .difference .ensures, c .before .velocity2 .ensures, c .before .before .velocity .ensures) refl
 
 pub relative-velocity-spec : {M : Type 1} → statement M
 relative-velocity-spec =

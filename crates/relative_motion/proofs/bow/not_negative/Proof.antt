@@ -1,14 +1,15 @@
+use mathlib.Core.Path.{refl}
 use Rattle.relative_motion.specs.Bow.{notNegative}
 use Rattle.relative_motion.proofs.bow.not_negative.Statement.{statement}
 use Rattle.relative_motion.proofs.bow.not_negative.Tie as tie
 
 returns : tie.Need-returns
 unfolding notNegative
-returns c = cc
+returns c = rw (c .if1 .taken) refl
 
 returns-2 : tie.Need-returns-2
 unfolding notNegative
-returns-2 c = cc
+returns-2 c = rw (c .if1 .left) refl
 
 pub not-negative-spec : {M : Type 1} → statement M
 not-negative-spec = tie.close (tie.spec returns returns-2)

@@ -1,3 +1,4 @@
+use mathlib.Core.Path.{refl}
 use Rattle.assessment.specs.Assess.{bearingIn}
 use borrow.Author.Needs.{needs}
 use Rattle.assessment.proofs.assess.CollisionAssessment.bearing_at_cpa.Statement.{
@@ -15,7 +16,7 @@ returns : tie.Need-returns
 returns c = search needs
 
 returns-2 : tie.Need-returns-2
-returns-2 c = cc
+returns-2 c = rw (c .before .before .cpa .given .1) refl
 
 pub bearing-at-cpa-spec : {M : Type 1} → statement M
 bearing-at-cpa-spec = tie.close (tie.spec enum-told enum-known-cpa returns returns-2)

@@ -1,3 +1,4 @@
+use mathlib.Core.Path.{refl}
 use Rattle.assessment.specs.Assess.{distanceIn}
 use borrow.Author.Needs.{needs}
 use Rattle.assessment.proofs.assess.CollisionAssessment.cpa_distance.Statement.{statement}
@@ -13,7 +14,7 @@ returns : tie.Need-returns
 returns c = search needs
 
 returns-2 : tie.Need-returns-2
-returns-2 c = cc
+returns-2 c = rw (c .before .before .cpa .given .1) refl
 
 pub cpa-distance-spec : {M : Type 1} → statement M
 cpa-distance-spec = tie.close (tie.spec enum-told enum-known-cpa returns returns-2)

@@ -1,3 +1,4 @@
+use mathlib.Core.Path.{refl}
 use Rattle.motion.specs.Vessel.{fromVelocity}
 use borrow.Author.Needs.{needs}
 use Rattle.motion.proofs.vessel.Vessel.from_velocity.Statement.{statement}
@@ -11,7 +12,7 @@ hypot-requires c κs = search needs
 
 returns : tie.Need-returns
 unfolding fromVelocity
-returns c = cc
+returns c = rw (c .hypot .ensures, c .before .direction-of .ensures) refl
 
 pub from-velocity-spec : {M : Type 1} → statement M
 from-velocity-spec = tie.close (tie.spec direction-of-requires hypot-requires returns)

@@ -1,0 +1,2 @@
+-- Laws on the refusing functions.
+pub mod Answers

@@ -1,0 +1,2 @@
+-- The refusing functions.
+pub mod Checked

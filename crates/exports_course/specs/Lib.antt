@@ -1,0 +1,2 @@
+-- C exports of plots and courses.
+pub mod Words

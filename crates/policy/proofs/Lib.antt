@@ -1,0 +1,2 @@
+-- What the code of the limits owes.
+pub mod Made

@@ -1,0 +1,2 @@
+-- The limits of an assessment.
+pub mod Policy

@@ -1,0 +1,2 @@
+-- Drift and risk.
+pub mod Risk

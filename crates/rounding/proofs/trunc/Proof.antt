@@ -1,0 +1,40 @@
+use mathlib.Core.Path.{sym, subst}
+use lib.Dec.{T}
+use lib.Ieee.{ofBits}
+use Rattle.rounding.proofs.Whole.{trunc-asks, trunc-holds, trunc-is, trunc-stays}
+use borrow.Author.Needs.{needs}
+use Rattle.rounding.proofs.trunc.Statement.{statement}
+use Rattle.rounding.proofs.trunc.Tie as tie
+
+abs-requires : tie.Need-abs-requires
+abs-requires c κs = search needs
+
+truncating-f64-to-u64-requires : tie.Need-truncating-f64-to-u64-requires
+unfolding ofBits
+truncating-f64-to-u64-requires c κs = trunc-asks (c .before .before .args .x) (c .before .abs .result) (c .before .abs .ensures) (c .if1 .taken)
+
+int-to-float-copysign : tie.Need-int-to-float-copysign
+unfolding ofBits
+int-to-float-copysign c = trunc-holds (c .before .before .before .before .args .x) (c .before .before .before .abs .result) (c .before .before .before .abs .ensures) (c .before .before .if1 .taken) (c .before .truncating-f64-to-u64 .result) (c .before .truncating-f64-to-u64 .ensures)
+
+copysign-requires : tie.Need-copysign-requires
+copysign-requires c κs = search needs
+
+returns : tie.Need-returns
+unfolding ofBits
+returns c = trunc-is (c .before .before .before .before .before .args .x) (c .before .before .before .before .abs .result) (c .before .before .before .before .abs .ensures) (c .before .before .before .if1 .taken) (c .copysign .result) (c .before .before .truncating-f64-to-u64 .result) (c .before .before .truncating-f64-to-u64 .ensures) (c .copysign .ensures)
+
+returns-2 : tie.Need-returns-2
+unfolding ofBits
+returns-2 c = trunc-stays (c .before .before .args .x) (c .before .abs .result) (subst T (sym (c .before .before .good .0 .1)) tt) (c .before .abs .ensures) (c .if1 .left)
+
+pub trunc-spec : {M : Type 1} → statement M
+trunc-spec =
+    tie.close
+    (tie.spec
+    abs-requires
+    truncating-f64-to-u64-requires
+    int-to-float-copysign
+    copysign-requires
+    returns
+    returns-2)

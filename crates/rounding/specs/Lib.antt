@@ -1,0 +1,3 @@
+-- Rounding to whole numbers.
+pub mod Cast
+pub mod Whole

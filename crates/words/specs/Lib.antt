@@ -1,0 +1,2 @@
+-- What the C exports of motion share.
+pub mod Words
