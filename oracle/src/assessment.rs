@@ -222,12 +222,12 @@ pub fn compare(count: u64) -> bool {
 }
 
 /// The function's number in the records.
-const ASSESS: u64 = 8;
+const ASSESS: u64 = 0;
 
 /// Cases in the records.
 const EACH: u64 = 120;
 
-/// Adds records and answers of the assessment, as in motion.rs.
+/// Adds records and answers of the assessment. As in motion.rs an answer is the port's once it is known to be the Rust's.
 pub fn write(module: &mut Module) {
     let mut random = Random::new(19);
     for i in 0..EACH {

@@ -3,16 +3,22 @@
 //! looked at.
 
 use crate::angle::wrap360;
+use crate::calls;
 use crate::compare::generator;
 #[cfg(feature = "avoidance")]
 use crate::compare::{run, same};
 use crate::inputs::{neighbour, Random};
+use crate::math;
 use crate::motion::Kind::{self, Direction, Distance, Speed};
 use crate::motion::{accepted, any, bad, collision_bearing, is_accepted, related, turning};
 #[cfg(feature = "avoidance")]
 use crate::port;
 use crate::ruling::drawn;
-use crate::traffic_calls::{avoid, constraints, list, refused, ruled, search, AvoidWords, Limits, Ruled, Rulings, SearchWords, SIDES};
+use crate::traffic_calls::{
+    avoid, constraints, list, refused, ruled, search, AvoidWords, Limits, List, Ruled, Rulings, SearchWords, SIDES,
+};
+#[cfg(feature = "avoidance")]
+use crate::vectors::Module;
 
 /// The number of refused constraints, and of too many contacts.
 const CONSTRAINTS: u64 = 4;
@@ -104,6 +110,35 @@ fn limits(random: &mut Random) -> (f64, f64) {
     }
 }
 
+/// A most alteration about that of an answer, which is then the last trial, a cut one, or no trial any more.
+fn most_about(magnitude: f64, least: f64, random: &mut Random) -> f64 {
+    if magnitude == 0.0 {
+        return any(&[0.0, 0.5, 1.0], random);
+    }
+    let part = random.unit();
+    let choices = [magnitude, neighbour(magnitude, -1), neighbour(magnitude, 1), magnitude + part, magnitude - part, magnitude - 1.0];
+    let most = any(&choices, random);
+    if (least..=180.0).contains(&most) {
+        most
+    } else {
+        magnitude
+    }
+}
+
+/// A desired distance about where a trial clears a contact: exactly 1e-9 above its CPA there, or next to that.
+fn just_met((own_course, own_speed): (f64, f64), contact: [f64; 4], least: f64, random: &mut Random) -> Option<f64> {
+    let turn = least + random.below(40) as f64;
+    let altered = wrap360(own_course + any(&[1.0, -1.0], random) * turn);
+    let [bearing, range, course, speed] = contact;
+    let accepted = [Direction, Speed, Direction, Distance, Direction, Speed].into_iter();
+    if first_bad(accepted.zip([altered, own_speed, bearing, range, course, speed])).is_some() {
+        return None;
+    }
+    let [_, kind, distance, ..] = calls::cpa([altered, own_speed, bearing, range, course, speed, 0.0, 0.0].map(f64::to_bits));
+    let desired = random.near(f64::from_bits(distance) + 1e-9);
+    (kind == 0 && desired <= 10_000.0).then_some(desired)
+}
+
 /// Limits that are refused.
 fn bad_limits(random: &mut Random) -> (f64, f64) {
     let no_angle = any(&[f64::NAN, f64::INFINITY, f64::NEG_INFINITY, -5e-324, -1.0, 180.00000000000003, 181.0], random);
@@ -131,10 +166,10 @@ const KINDS: [Kind; 7] = [Direction, Speed, Direction, Distance, Direction, Spee
 /// The sides' code, and whether a rate is given; the encounter and the desired distance; least, most and the rate.
 #[derive(Clone, Copy)]
 pub struct Avoid {
-    sides: u32,
+    pub sides: u32,
     has_rate: bool,
-    encounter: [f64; 7],
-    limits: Limits,
+    pub encounter: [f64; 7],
+    pub limits: Limits,
 }
 
 const fn meeting(sides: u32, encounter: [f64; 7], least: f64, most: f64) -> Avoid {
@@ -194,20 +229,19 @@ impl Avoid {
         Avoid { sides: random.below(3) as u32, has_rate, encounter, limits: Limits { least, most, rate: has_rate.then(|| rate(random)) } }
     }
 
-    /// The desired distance about where a trial's CPA clears: exactly 1e-9 above it, or next to that.
-    fn at_the_tolerance(mut self, random: &mut Random) -> Avoid {
-        let [own_course, own_speed, bearing, range, course, speed, _] = self.encounter;
-        let turn = self.limits.least + random.below(40) as f64;
-        let altered = wrap360(own_course + any(&[1.0, -1.0], random) * turn);
-        let answer = crate::calls::cpa([altered, own_speed, bearing, range, course, speed, 0.0, 0.0].map(f64::to_bits));
-        let desired = random.near(f64::from_bits(answer[2]) + 1e-9);
-        if answer[1] == 0 && desired <= 10_000.0 {
-            self.encounter[6] = desired;
-        }
+    /// A seed that is about a reversal: the contact lies so that the relative track of the reversed course passes at the desired
+    /// distance.
+    fn reversing(mut self, random: &mut Random) -> Avoid {
+        let [own_course, own_speed, bearing, range, course, speed, desired] = &mut self.encounter;
+        *own_course = any(&[105.0, *own_course], random);
+        let grazing = math::to_degrees((*desired / *range).clamp(0.0, 1.0).asin());
+        let straight = collision_bearing(wrap360(*own_course + 180.0), *own_speed, *course, *speed);
+        *bearing = wrap360(straight + any(&[grazing, -grazing], random));
         self
     }
 
-    /// Adversarial arguments: where something turns, related ones, distances that are just met, and one or two bad ones.
+    /// Adversarial arguments: where something turns, related ones, distances that are just met, lists that end about the answer, and one or
+    /// two bad ones.
     fn adversarial(random: &mut Random) -> Avoid {
         let mut case = Avoid::random(random);
         for (x, kind) in case.encounter.iter_mut().zip(KINDS) {
@@ -220,8 +254,19 @@ impl Avoid {
             let [encounter @ .., _] = related([a, b, c, d, e, f, g, 0.0], random);
             case.encounter = encounter;
         }
-        if random.below(3) == 0 && first_bad(KINDS.into_iter().zip(case.encounter)).is_none() {
-            case = case.at_the_tolerance(random);
+        if random.below(8) == 0 {
+            case = case.reversing(random);
+        }
+        let Limits { least, .. } = case.limits;
+        let [own_course, own_speed, bearing, range, course, speed, _] = case.encounter;
+        if random.below(3) == 0 {
+            if let Some(desired) = just_met((own_course, own_speed), [bearing, range, course, speed], least, random) {
+                case.encounter[6] = desired;
+            }
+        }
+        let answer = case.reference();
+        if random.below(4) == 0 && answer[0] == 0 {
+            case.limits.most = most_about(f64::from_bits(answer[2]).abs(), least, random);
         }
         if random.below(8) == 0 {
             for _ in 0..=random.below(2) {
@@ -307,27 +352,46 @@ impl Case for Avoid {
 /// Own course and speed, and the desired distance.
 type Own = (f64, f64, f64);
 
-/// The kinds of traffic.
-const STYLES: u64 = 6;
+/// The kinds of traffic, the walls more often than others.
+#[derive(Clone, Copy, PartialEq)]
+enum Style {
+    /// Any contacts.
+    Any,
+    /// Some miles off, at usual speeds.
+    Near,
+    /// Dense: each about straight on, from any course.
+    StraightOn,
+    /// Contacts that hardly move, from one side of the bow to the other: clear at the wall's nearer end.
+    Wall,
+    /// The same to both sides: two ends that are as near.
+    EvenWall,
+    /// Pairs that mirror one another.
+    Mirrored,
+    /// Coming up on the starboard quarter.
+    Quarter,
+}
+use Style::{EvenWall, Mirrored, Near, Quarter, StraightOn, Wall};
+
+const STYLES: [Style; 12] =
+    [Style::Any, Near, StraightOn, StraightOn, StraightOn, Wall, Wall, Wall, EvenWall, EvenWall, Mirrored, Quarter];
+
+fn style(i: u64) -> Style {
+    STYLES[(i % STYLES.len() as u64) as usize]
+}
 
 /// Contacts: bearing, range, course and speed of each.
-fn traffic(style: u64, count: usize, own: Own, random: &mut Random) -> Vec<[f64; 4]> {
+fn traffic(style: Style, count: usize, own: Own, random: &mut Random) -> Vec<[f64; 4]> {
     match style {
-        // Any.
-        0 => (0..count).map(|_| [Direction, Distance, Direction, Speed].map(|kind| drawn(accepted, kind, random))).collect(),
-        // Some miles off, at usual speeds.
-        1 => (0..count).map(|_| near(random.unit() * 360.0, random)).collect(),
-        // Dense: each about straight on, from any course.
-        2 => (0..count).map(|_| straight_on(own, random)).collect(),
-        // A wall of contacts that hardly move, from one side of the bow to the other: clear at its nearer end.
-        3 => wall(count, own, random.unit() * 180.0, random.unit() * 180.0, random),
-        // The same to both sides: two ends that are as near.
-        4 => {
-            let end = random.unit() * 170.0;
+        Style::Any => (0..count).map(|_| [Direction, Distance, Direction, Speed].map(|kind| drawn(accepted, kind, random))).collect(),
+        Near => (0..count).map(|_| near(random.unit() * 360.0, random)).collect(),
+        StraightOn => (0..count).map(|_| straight_on(own, random)).collect(),
+        Wall => wall(count, own, random.unit() * 110.0, random.unit() * 180.0, random),
+        EvenWall => {
+            let end = random.unit() * 110.0;
             wall(count, own, end, end, random)
         }
-        // Pairs that mirror one another.
-        _ => mirrored(count, own, random),
+        Mirrored => mirrored(count, own, random),
+        Quarter => (0..count).map(|_| up_the_quarter(own, random)).collect(),
     }
 }
 
@@ -343,7 +407,7 @@ fn straight_on((own_course, own_speed, _): Own, random: &mut Random) -> [f64; 4]
 
 /// From so many degrees to port to so many to starboard, evenly.
 fn wall(count: usize, (own_course, own_speed, desired): Own, port: f64, starboard: f64, random: &mut Random) -> Vec<[f64; 4]> {
-    let range = (desired * (1.0 + random.unit() * 4.0)).clamp(0.1, 10_000.0);
+    let range = (desired * (1.0 + 4.0 * random.unit().powi(3))).clamp(0.1, 10_000.0);
     let slow = any(&[0.0, 0.0, 1e-10, own_speed * 0.1], random).min(1000.0);
     let step = (port + starboard) / (count.max(2) - 1) as f64;
     let mut contacts: Vec<[f64; 4]> =
@@ -353,6 +417,13 @@ fn wall(count: usize, (own_course, own_speed, desired): Own, port: f64, starboar
         contacts.swap(i, j);
     }
     contacts
+}
+
+fn up_the_quarter((own_course, own_speed, _): Own, random: &mut Random) -> [f64; 4] {
+    let off = 90.0 + random.unit() * 89.0;
+    let [_, range, ..] = near(0.0, random);
+    let course = wrap360(own_course + off + 180.0 + random.unit() * 40.0 - 20.0);
+    [wrap360(own_course + off), range, course, (own_speed + random.unit() * 25.0).min(1000.0)]
 }
 
 fn mirrored(count: usize, (own_course, ..): Own, random: &mut Random) -> Vec<[f64; 4]> {
@@ -367,14 +438,16 @@ fn mirrored(count: usize, (own_course, ..): Own, random: &mut Random) -> Vec<[f6
 /// Own craft and a desired distance for traffic.
 fn own(random: &mut Random) -> Own {
     let course = any(&[0.0, 0.0, 90.0, 180.1, random.unit() * 360.0, drawn(turning, Direction, random)], random);
-    let speed = any(&[10.0, random.unit() * 25.0, random.unit() * 25.0, 0.0, drawn(accepted, Speed, random)], random);
-    let desired = any(&[1.0, random.unit() * 2.0, random.unit() * 0.2, random.unit() * 5.0, 0.0, 1e-9], random);
+    let usual = 2.0 + random.unit() * 23.0;
+    let speed = any(&[10.0, usual, usual, usual, usual, 0.0, drawn(accepted, Speed, random)], random);
+    let small = any(&[0.0, 1e-9, random.unit() * 0.2], random);
+    let desired = any(&[1.0, 1.0, random.unit() * 2.0, random.unit() * 2.0, random.unit() * 5.0, small], random);
     (course, speed, desired)
 }
 
 /// How many contacts: mostly few.
 fn how_many(random: &mut Random) -> usize {
-    let most = any(&[3, 3, 9, 9, 17, 33], random);
+    let most = any(&[3, 4, 9, 9, 17, 17, 33], random);
     random.below(most) as usize
 }
 
@@ -411,8 +484,19 @@ impl Case for Search {
         let (count, own) = (how_many(random), own(random));
         let (least, most) = limits(random);
         let mut floats = vec![own.0, own.1, own.2, least, most];
-        floats.extend(traffic(i % STYLES, count, own, random).into_iter().flatten());
-        Search { sides: random.below(3) as u32, count, floats }
+        let contacts = traffic(style(i), count, own, random);
+        if count > 0 && random.below(6) == 0 {
+            floats[2] = just_met((own.0, own.1), any(&contacts, random), least, random).unwrap_or(own.2);
+        }
+        floats.extend(contacts.into_iter().flatten());
+        let mut case = Search { sides: random.below(3) as u32, count, floats };
+        if random.below(4) == 0 {
+            let [found, _, magnitude, ..] = case.reference();
+            if found == 1 {
+                case.floats[4] = most_about(f64::from_bits(magnitude), least, random);
+            }
+        }
+        case
     }
 
     fn reference(&self) -> SearchWords {
@@ -508,7 +592,7 @@ impl RuledCase {
     }
 
     /// A situation with accepted arguments, but for the rate.
-    fn random(style: u64, random: &mut Random) -> RuledCase {
+    fn random(style: Style, random: &mut Random) -> RuledCase {
         let (count, own) = (how_many(random), own(random));
         let (least, most) = limits(random);
         let mut codes = random.below(CODES) as u32 & !RATE;
@@ -516,8 +600,11 @@ impl RuledCase {
             codes |= RATE;
         }
         // Both sides are shared where every vessel is overtaken, as seen from her heading.
-        let overtaken = random.below(2) == 0;
-        if overtaken {
+        let overtaken = style != Quarter && random.below(2) == 0;
+        if style == Quarter {
+            codes |= RESTRICTED;
+            codes &= !OWN_HEADING;
+        } else if overtaken {
             codes &= !(RESTRICTED | OWN_HEADING);
         } else if random.below(3) != 0 {
             codes &= !OWN_HEADING;
@@ -525,7 +612,11 @@ impl RuledCase {
         let own_heading = any(&[own.0, wrap360(own.0 + random.unit() * 20.0 - 10.0), random.unit() * 360.0], random);
         let mut floats = vec![own.0, own.1, own_heading, drawn(accepted, Direction, random), own.2, least, most, rate(random)];
         let one = random.below(8) as u32;
-        for [bearing, range, course, speed] in traffic(style, count, own, random) {
+        let contacts = traffic(style, count, own, random);
+        if count > 0 && random.below(6) == 0 {
+            floats[4] = just_met((own.0, own.1), any(&contacts, random), least, random).unwrap_or(own.2);
+        }
+        for [bearing, range, course, speed] in contacts {
             let heads = [course, bearing, wrap360(bearing + 180.0), wrap360(bearing + 90.0), drawn(accepted, Direction, random)];
             let heading = if overtaken { bearing } else { any(&heads, random) };
             let category = any(&[0, one, random.below(8) as u32], random);
@@ -550,7 +641,12 @@ impl RuledCase {
     fn spoil(&mut self, random: &mut Random) {
         match random.below(8) {
             0 => (self.floats[5], self.floats[6]) = bad_limits(random),
-            1 => self.count = any(&[33, 33, 34, 1000, usize::MAX], random),
+            1 => {
+                if random.below(2) == 0 {
+                    self.spoil_one(random);
+                }
+                self.count = any(&[33, 33, 34, 1000, usize::MAX], random);
+            }
             2 => {
                 self.floats.truncate(BASE + random.below((self.floats.len() - BASE + 1) as u64) as usize);
             }
@@ -584,7 +680,7 @@ impl RuledCase {
     }
 
     /// The arguments of the reference, where none is bad.
-    fn arguments(&self) -> (Limits, Rulings, crate::traffic_calls::List) {
+    fn arguments(&self) -> (Limits, Rulings, List) {
         let (contacts, targets): (Vec<_>, Vec<_>) = (0..self.count).map(|place| self.entry(place)).unzip();
         let own = (self.codes & CATEGORY, self.given(OWN_HEADING, 2));
         let rulings = Rulings { own, targets, restricted: self.codes & RESTRICTED != 0, wind: self.given(WIND, 3) };
@@ -617,7 +713,13 @@ impl Case for RuledCase {
     type Tally = RuledTally;
 
     fn case(i: u64, count: u64, random: &mut Random) -> RuledCase {
-        let mut case = RuledCase::random(i % STYLES, random);
+        let mut case = RuledCase::random(style(i), random);
+        if random.below(4) == 0 {
+            let answer = case.reference();
+            if answer.words[0] == 0 {
+                case.floats[6] = most_about(f64::from_bits(answer.words[2]), case.floats[5], random);
+            }
+        }
         if i < count / 2 {
             case.fill_with_bad(random);
             if random.below(4) == 0 {
@@ -668,6 +770,90 @@ impl Case for RuledCase {
         let parts = (0..9u32).filter(|part| all || *part == 0 || u64::from(*part) == i % 9);
         let words = differing(parts, &wanted.words, |part| self.port(part))?;
         Some(format!("codes {:07b}, {} contacts, {:?}, {words}", self.codes, self.count, self.floats))
+    }
+}
+
+/// So many random cases of `avoid` that are not refused.
+#[cfg(feature = "avoidance")]
+pub fn answered(count: usize) -> Vec<Avoid> {
+    let mut random = Random::new(5);
+    std::iter::repeat_with(|| Avoid::random(&mut random)).filter(|case| case.reference()[0] == 0).take(count).collect()
+}
+
+/// Cases for the benchmark: own craft due north at 10 knots, desired 1, all alterations to either side.
+#[cfg(feature = "avoidance")]
+impl RuledCase {
+    fn timed(contacts: &[[f64; 4]]) -> RuledCase {
+        let mut floats = vec![0.0, 10.0, 0.0, 0.0, 1.0, 0.0, 180.0, 0.0];
+        for [bearing, range, course, speed] in contacts {
+            // Each is seen from astern, so that both sides are permitted.
+            floats.extend([*bearing, *range, *course, *speed, *bearing, f64::from(HEADING)]);
+        }
+        RuledCase { codes: 0, count: contacts.len(), floats }
+    }
+
+    fn shares_both(&self) -> bool {
+        self.reference().shared == (true, true)
+    }
+
+    /// Nothing clears, and the last contact is always the one that does not.
+    pub fn worst() -> RuledCase {
+        let mut random = Random::new(5);
+        let clears = |[bearing, range, course, speed]: [f64; 4]| {
+            (0..360u32).all(|own_course| {
+                let words = [f64::from(own_course), 10.0, bearing, range, course, speed, 0.0, 0.0].map(f64::to_bits);
+                let [_, kind, distance, ..] = calls::cpa(words);
+                kind != 0 || f64::from_bits(distance) >= 1.0
+            })
+        };
+        let far = std::iter::repeat_with(|| [random.unit() * 60.0, 25.0 + random.unit() * 10.0, random.unit() * 360.0, random.unit() * 25.0]);
+        let mut contacts: Vec<[f64; 4]> =
+            far.filter(|contact| clears(*contact) && RuledCase::timed(&[*contact]).shares_both()).take(MAX_CONTACTS - 1).collect();
+        contacts.push([0.0, 0.9, 180.0, 100.0]);
+        let case = RuledCase::timed(&contacts);
+        let answer = case.reference();
+        assert!(answer.words[0] == 5 && answer.shared == (true, true));
+        case
+    }
+
+    /// Eight contacts, both sides permitted, and an answer of 57 degrees.
+    pub fn usual() -> Vec<RuledCase> {
+        let mut random = Random::new(5);
+        let cases = std::iter::repeat_with(|| {
+            let style = any(&[StraightOn, Wall], &mut random);
+            RuledCase::timed(&traffic(style, 8, (0.0, 10.0, 1.0), &mut random))
+        });
+        let fits = |case: &RuledCase| {
+            let answer = case.reference();
+            answer.words[0] == 0 && answer.words[2] == 57f64.to_bits() && answer.shared == (true, true)
+        };
+        cases.filter(fits).take(16).collect()
+    }
+
+    /// Own course and speed, desired, and the contacts.
+    pub fn picture(&self) -> (f64, f64, f64, Vec<[f64; 4]>) {
+        (self.at(0), self.at(1), self.at(4), (0..self.count).map(|place| self.entry(place).0).collect())
+    }
+}
+
+/// The function's number in the records.
+#[cfg(feature = "avoidance")]
+const AVOID: u64 = 1;
+
+/// Adds records and answers of `avoid`: codes of the sides and of whether a rate is given, and ten floats. An answer is the port's once
+/// it is known to be the Rust's.
+#[cfg(feature = "avoidance")]
+pub fn write(module: &mut Module) {
+    let mut random = Random::new(23);
+    for i in 0..150 {
+        let case = Avoid::case(i, 200, &mut random);
+        assert_eq!(case.difference(i, &case.reference()), None);
+        let Limits { least, most, rate } = case.limits;
+        let floats = case.encounter.into_iter().chain([least, most, rate.unwrap_or(0.0)]).map(f64::to_bits);
+        let words: Vec<u64> = [u64::from(case.sides), u64::from(case.has_rate)].into_iter().chain(floats).collect();
+        for part in 0..9 {
+            module.push(AVOID, part, words.iter().copied(), case.port(part));
+        }
     }
 }
 

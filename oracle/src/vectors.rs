@@ -1,4 +1,4 @@
-//! The records and answers that `elementary_main` and `module_main` replay in the gate.
+//! The records and answers that `elementary_main`, `module_main` and, where it is there, `avoidance_main` replay in the gate.
 
 use std::fs;
 use std::iter::repeat;
@@ -8,7 +8,9 @@ use crate::angle::{wrap180, wrap360};
 use crate::arcs::{arcsine_input, arctangent_input};
 use crate::compare::{angle_input, hypot_input, hypotenuse_holds, time};
 use crate::inputs::{Random, LIMITS};
-use crate::{math, method, motion, port, ruling};
+#[cfg(feature = "avoidance")]
+use crate::avoidance;
+use crate::{assessment, math, method, motion, port, ruling};
 
 /// The pattern that stands for every NaN.
 const NAN: u64 = 0x7ff8_0000_0000_0000;
@@ -118,16 +120,20 @@ fn arguments(which: u64, i: u64, random: &mut Random) -> (u64, u64) {
     }
 }
 
-/// Stores what a program of the port reads, records of little-endian words, and what it then has to print.
+/// Stores what a program of the port reads, records of little-endian words, and what it then has to print; nothing if there is no such
+/// program.
 fn store(program: &str, records: &[u64], answers: &[u64]) {
     let folder = Path::new(env!("CARGO_MANIFEST_DIR")).join("../crates").join(program);
+    if !folder.is_dir() {
+        return;
+    }
     let bytes: Vec<u8> = records.iter().flat_map(|word| word.to_le_bytes()).collect();
     let lines: String = answers.iter().map(|answer| format!("{answer:016x}\n")).collect();
     fs::write(folder.join("stdin"), bytes).unwrap();
     fs::write(folder.join("stdout"), lines).unwrap();
 }
 
-/// What `module_main` replays: a function's number, a part of its answer and the arguments; and the answers.
+/// What `module_main` and `avoidance_main` replay: a function's number, a part of its answer and the arguments; and the answers.
 #[derive(Default)]
 pub struct Module {
     records: Vec<u64>,
@@ -149,6 +155,11 @@ pub fn write() {
     motion::write(&mut module);
     ruling::write(&mut module);
     store("module_main", &module.records, &module.answers);
+    let mut module = Module::default();
+    assessment::write(&mut module);
+    #[cfg(feature = "avoidance")]
+    avoidance::write(&mut module);
+    store("avoidance_main", &module.records, &module.answers);
 }
 
 fn write_elementary() {
