@@ -145,7 +145,8 @@ fn bad_limits(random: &mut Random) -> (f64, f64) {
     any(&[(no_angle, 180.0), (0.0, no_angle), (9.0, 8.0), (8.000000000000002, 8.0), (no_angle, no_angle), (180.0, 0.0)], random)
 }
 
-/// A rate of turn: a usual one of either sign, one about which the turn time becomes too long, the limits of what is accepted, and what is not.
+/// A rate of turn: a usual one of either sign, one about which the turn time becomes too long, the limits of what is accepted, and what
+/// is not.
 fn rate(random: &mut Random) -> f64 {
     let slow = 60.0 * (random.unit() * 180.0) / 18446744073709551616.0;
     match random.below(8) {
@@ -319,8 +320,9 @@ impl Case for Avoid {
     fn reference(&self) -> AvoidWords {
         match constraints(SIDES[self.sides as usize], self.limits) {
             Err(_) => refused(CONSTRAINTS),
-            Ok(made) => first_bad(KINDS.into_iter().zip(self.encounter))
-                .map_or_else(|| avoid(&made, self.encounter.map(f64::to_bits)), refused),
+            Ok(made) => {
+                first_bad(KINDS.into_iter().zip(self.encounter)).map_or_else(|| avoid(&made, self.encounter.map(f64::to_bits)), refused)
+            }
         }
     }
 
@@ -372,8 +374,7 @@ enum Style {
 }
 use Style::{EvenWall, Mirrored, Near, Quarter, StraightOn, Wall};
 
-const STYLES: [Style; 12] =
-    [Style::Any, Near, StraightOn, StraightOn, StraightOn, Wall, Wall, Wall, EvenWall, EvenWall, Mirrored, Quarter];
+const STYLES: [Style; 12] = [Style::Any, Near, StraightOn, StraightOn, StraightOn, Wall, Wall, Wall, EvenWall, EvenWall, Mirrored, Quarter];
 
 fn style(i: u64) -> Style {
     STYLES[(i % STYLES.len() as u64) as usize]
@@ -410,8 +411,7 @@ fn wall(count: usize, (own_course, own_speed, desired): Own, port: f64, starboar
     let range = (desired * (1.0 + 4.0 * random.unit().powi(3))).clamp(0.1, 10_000.0);
     let slow = any(&[0.0, 0.0, 1e-10, own_speed * 0.1], random).min(1000.0);
     let step = (port + starboard) / (count.max(2) - 1) as f64;
-    let mut contacts: Vec<[f64; 4]> =
-        (0..count).map(|i| [wrap360(own_course - port + step * i as f64), range, own_course, slow]).collect();
+    let mut contacts: Vec<[f64; 4]> = (0..count).map(|i| [wrap360(own_course - port + step * i as f64), range, own_course, slow]).collect();
     if count > 1 && random.below(2) == 0 {
         let (i, j) = (random.below(count as u64) as usize, random.below(count as u64) as usize);
         contacts.swap(i, j);
@@ -806,7 +806,10 @@ impl RuledCase {
                 kind != 0 || f64::from_bits(distance) >= 1.0
             })
         };
-        let far = std::iter::repeat_with(|| [random.unit() * 60.0, 25.0 + random.unit() * 10.0, random.unit() * 360.0, random.unit() * 25.0]);
+        let far = std::iter::repeat_with(|| {
+            let [_, range, course, speed] = near(0.0, &mut random);
+            [random.unit() * 60.0, 25.0 + range, course, speed]
+        });
         let mut contacts: Vec<[f64; 4]> =
             far.filter(|contact| clears(*contact) && RuledCase::timed(&[*contact]).shares_both()).take(MAX_CONTACTS - 1).collect();
         contacts.push([0.0, 0.9, 180.0, 100.0]);

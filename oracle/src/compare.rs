@@ -3,10 +3,10 @@
 use std::time::Duration;
 
 use crate::angle::{wrap180, wrap360};
-use crate::big::{units, Big};
-use crate::inputs::{Random, LIMITS};
 #[cfg(feature = "avoidance")]
 use crate::avoidance;
+use crate::big::{units, Big};
+use crate::inputs::{Random, LIMITS};
 use crate::{arcs, assessment, circular, math, method, motion, port, ruling};
 
 /// The generator of a comparison's inputs.

@@ -6,10 +6,10 @@ use std::path::Path;
 
 use crate::angle::{wrap180, wrap360};
 use crate::arcs::{arcsine_input, arctangent_input};
-use crate::compare::{angle_input, hypot_input, hypotenuse_holds, time};
-use crate::inputs::{Random, LIMITS};
 #[cfg(feature = "avoidance")]
 use crate::avoidance;
+use crate::compare::{angle_input, hypot_input, hypotenuse_holds, time};
+use crate::inputs::{Random, LIMITS};
 use crate::{assessment, math, method, motion, port, ruling};
 
 /// The pattern that stands for every NaN.
