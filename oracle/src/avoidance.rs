@@ -4,9 +4,9 @@
 
 use crate::angle::wrap360;
 use crate::calls;
-use crate::compare::generator;
 #[cfg(feature = "avoidance")]
-use crate::compare::{run, same};
+use crate::compare::same;
+use crate::compare::{generator, run};
 use crate::inputs::{neighbour, Random};
 use crate::math;
 use crate::motion::Kind::{self, Direction, Distance, Speed};
@@ -186,9 +186,9 @@ const CORNERS: &[Avoid] = &[
     // Nothing clears, inside the distance.
     meeting(0, [0.0, 10.0, 0.0, 0.5, 0.0, 0.0, 1.0], 0.0, 5.0),
     // Without a seed, since desired is the range: the grid's last trial, and 2.5 untried.
-    meeting(1, [0.0, 10.0, 88.0, 4.0, 0.0, 0.0, 4.0], 0.0, 2.5),
-    meeting(1, [0.0, 10.0, 87.6, 4.0, 0.0, 0.0, 4.0], 0.0, 2.5),
-    meeting(1, [0.0, 10.0, 87.6, 4.0, 0.0, 0.0, 4.0], 2.5, 2.5),
+    meeting(1, [0.0, 10.0, 271.5, 4.0, 0.0, 0.0, 4.0], 0.0, 2.5),
+    meeting(1, [0.0, 10.0, 272.4, 4.0, 0.0, 0.0, 4.0], 0.0, 2.5),
+    meeting(1, [0.0, 10.0, 272.4, 4.0, 0.0, 0.0, 4.0], 2.5, 2.5),
     // A seed raised to the least, and one above the most.
     meeting(0, [0.0, 10.0, 0.0, 4.0, 0.0, 0.0, 1.0], 30.0, 180.0),
     meeting(0, [0.0, 10.0, 0.0, 4.0, 0.0, 0.0, 1.0], 0.0, 14.0),
@@ -214,6 +214,39 @@ const CORNERS: &[Avoid] = &[
     meeting(0, [0.0, 10.0, 0.0, 1.0, 0.0, 1000.5, -1.0], 0.0, 180.0),
     meeting(0, [0.0, 10.0, 0.0, 1.0, 0.0, 10.0, -1.0], 0.0, 180.0),
 ];
+
+/// What document 01 and the open points say of some corners, by their places: the number, the side, and the alteration and the course
+/// to three decimals.
+const STATED: &[(usize, u64, u64, f64, f64)] = &[
+    (0, 0, 0, 30.522, 30.522),
+    (1, 0, 0, 0.0, 0.0),
+    (3, 5, 0, 0.0, 0.0),
+    (4, 0, 0, 2.0, 2.0),
+    (5, 5, 0, 0.0, 0.0),
+    (6, 0, 0, 2.5, 2.5),
+    (15, 0, 0, 180.0, 0.1),
+    (16, 0, 1, -180.0, 0.1),
+    (21, 4, 0, 0.0, 0.0),
+    (22, 1, 0, 0.0, 0.0),
+    (23, 2, 0, 0.0, 0.0),
+    (24, 3, 0, 0.0, 0.0),
+    (25, 2, 0, 0.0, 0.0),
+    (26, 3, 0, 0.0, 0.0),
+];
+
+/// Whether the Rust answers the corners as is said of them, and turns from 180.1 by 180 either way to two different courses.
+fn compare_stated() -> bool {
+    let course = |place: usize| CORNERS[place].reference()[3];
+    let apart = course(15) == 0.10000000000002274f64.to_bits() && course(16) == 0.09999999999999432f64.to_bits();
+    let good = run("avoid as documented", STATED.len() as u64, |i, _| {
+        let (place, number, side, alteration, course) = STATED[i as usize];
+        let answer = CORNERS[place].reference();
+        let [got, course_got] = [answer[2], answer[3]].map(f64::from_bits);
+        let near = (got - alteration).abs() < 5e-4 && (course_got - course).abs() < 5e-4;
+        (answer[..2] != [number, side] || !near).then(|| format!("corner {place}: {answer:x?}"))
+    });
+    good && apart
+}
 
 impl Avoid {
     /// Random arguments, all accepted but for the rate.
@@ -867,6 +900,7 @@ fn counts(count: u64) -> (u64, u64, u64) {
 
 /// Counts what the references answer on the cases that are compared.
 pub fn outcomes(count: u64) {
+    assert!(compare_stated());
     let (avoid, search, ruled) = counts(count);
     look::<Avoid>(avoid);
     look::<Search>(search);
@@ -877,7 +911,8 @@ pub fn outcomes(count: u64) {
 #[cfg(feature = "avoidance")]
 pub fn compare(count: u64) -> bool {
     let (avoid, search, ruled) = counts(count);
-    let mut good = compare_cases::<Avoid>(avoid);
+    let mut good = compare_stated();
+    good &= compare_cases::<Avoid>(avoid);
     good &= compare_cases::<Search>(search);
     good &= compare_cases::<RuledCase>(ruled);
     good
