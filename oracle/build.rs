@@ -1,22 +1,31 @@
 //! Builds the port's archives and lays the listed Rust files ready, unchanged.
 //!
 //! The Rust is read from KINAVIS_SRC, or from `../shared/docs/src` beside the repository, and copied into OUT_DIR; none of
-//! it is kept here.
+//! it is kept here. Every copy is the file's text, byte for byte; avoidance.rs's has one line more, at its end (see `PROBED`).
 
 use std::path::{Path, PathBuf};
 use std::process::Command;
 use std::{env, fs};
 
 /// The archives with the port's C exports.
-const ARCHIVES: &[&str] = &["exports_elementary", "exports", "exports_time", "exports_motion", "exports_course", "exports_ruling"];
+const ARCHIVES: &[&str] = &[
+    "exports_elementary", "exports", "exports_time", "exports_motion", "exports_course", "exports_ruling", "exports_assessment", "exports_avoidance",
+];
 
-/// The listed files in use: module name and path below the sources' folder. The name `error` is the kernel's.
+/// The listed files in use: module name and path below the sources' folder. The name `error` is the kernel's, and `assessment` and
+/// `avoidance` are the program's own.
 const LISTED: &[(&str, &str)] = &[
     ("math", "crates/kinavis-kernel/src/math.rs"),
     ("navigation_error", "crates/kinavis/src/error.rs"),
     ("relative_motion", "crates/kinavis/src/relative_motion.rs"),
     ("colregs", "crates/kinavis-colregs/src/lib.rs"),
+    ("traffic_assessment", "crates/kinavis-traffic/src/assessment.rs"),
+    (PROBED, "crates/kinavis-traffic/src/avoidance.rs"),
 ];
+
+/// The listed file whose private `search` is the reference for lists of contacts. A line at the end of its copy names a child module,
+/// `oracle/src/kinavis/probe.rs`, since a child may use what is private to its parent; the text before that line is the file's.
+const PROBED: &str = "traffic_avoidance";
 
 /// The listed files that a listed file names as its own module, which Rust then looks for beside it.
 const NESTED: &[(&str, &str)] = &[("rules", "crates/kinavis-colregs/src/rules.rs")];
@@ -40,16 +49,22 @@ fn build_archives(root: &Path) {
 fn copy_listed(root: &Path) {
     let from = env::var("KINAVIS_SRC").map_or_else(|_| root.join("../shared/docs/src"), PathBuf::from);
     let out = PathBuf::from(env::var("OUT_DIR").unwrap());
+    let probe = format!("#[path = {:?}] pub mod probe;\n", root.join("oracle/src/kinavis/probe.rs"));
     let copy = |module: &str, path: &str| {
         let (source, copy) = (from.join(path), out.join(format!("{module}.rs")));
-        fs::copy(&source, &copy).unwrap_or_else(|e| panic!("{}: {e} (set KINAVIS_SRC)", source.display()));
+        let mut text = fs::read(&source).unwrap_or_else(|e| panic!("{}: {e} (set KINAVIS_SRC)", source.display()));
+        if module == PROBED {
+            text.extend(probe.bytes());
+        }
+        fs::write(&copy, text).unwrap();
         println!("cargo:rerun-if-changed={}", source.display());
         copy
     };
     let mut joined = String::new();
     for (module, path) in LISTED {
-        // lib.rs of a crate has an attribute that is without effect in a module.
-        joined += &format!("#[path = {:?}]\n#[allow(dead_code, unused_attributes)]\npub mod {module};\n", copy(module, path));
+        // lib.rs of a crate has an attribute that is without effect in a module; within a crate no enum has cases to come.
+        let allowed = "dead_code, unused_attributes, unreachable_patterns";
+        joined += &format!("#[path = {:?}]\n#[allow({allowed})]\npub mod {module};\n", copy(module, path));
     }
     for (module, path) in NESTED {
         copy(module, path);

@@ -4,8 +4,9 @@ use std::hint::black_box;
 use std::time::Instant;
 
 use crate::angle::{wrap180, wrap360};
+use crate::avoidance::{self, Avoid, RuledCase};
 use crate::inputs::Random;
-use crate::{calls, motion, port, ruling};
+use crate::{assessment, calls, motion, port, ruling, traffic_calls};
 
 const COUNT: usize = 4096;
 const ROUNDS: usize = 400;
@@ -53,6 +54,8 @@ pub fn all() {
     report("seconds to nanoseconds", &pairs, |x, _| f64::from(port::time_nanos(x)), |x, _| f64::from(crate::compare::time(x).2));
     relative_motion();
     rule_of_the_road();
+    assess();
+    avoid_and_search();
 }
 
 /// The functions of relative motion on accepted arguments that they don't refuse, beside the Rust on the port's elementary
@@ -77,4 +80,49 @@ fn rule_of_the_road() {
     let six = measure(&cases, |case| calls::ruling(case.codes, case.words()));
     let std = measure(&cases, |case| kinavis_std::calls::ruling(case.codes, case.words()));
     row("rule_of_the_road", port, six, std);
+}
+
+/// The assessment, likewise.
+fn assess() {
+    let cases = assessment::answered(COUNT / 4);
+    let port = measure(&cases, |words| assessment::port(1, words));
+    row("assess", port, measure(&cases, traffic_calls::assess), measure(&cases, kinavis_std::traffic_calls::assess));
+}
+
+/// Times of the Rust of one crate: of `avoid`, and of `search` to either side, without rulings, on each set of pictures.
+macro_rules! rust_times {
+    ($name:ident, $calls:path) => {
+        fn $name(avoids: &[Avoid], sets: &[Vec<RuledCase>]) -> Vec<f64> {
+            use $calls as rust;
+            let avoid = |case: Avoid| {
+                let traffic_calls::Limits { least, most, rate } = case.limits;
+                let made = rust::constraints(rust::SIDES[case.sides as usize], rust::Limits { least, most, rate });
+                rust::avoid(&made.expect("accepted constraints"), case.encounter.map(f64::to_bits))
+            };
+            let limits = rust::Limits { least: 0.0, most: 180.0, rate: None };
+            let searches = sets.iter().map(|set| {
+                let lists = set.iter().map(|case| {
+                    let (own_course, own_speed, desired, contacts) = case.picture();
+                    rust::list(own_course, own_speed, desired, contacts.into_iter())
+                });
+                let lists: Vec<rust::List> = lists.collect();
+                measure(&lists.iter().collect::<Vec<_>>(), |list| rust::search(rust::SIDES[0], limits, list))
+            });
+            std::iter::once(measure(avoids, avoid)).chain(searches).collect()
+        }
+    };
+}
+
+rust_times!(six_times, crate::traffic_calls);
+rust_times!(std_times, kinavis_std::traffic_calls);
+
+/// `avoid`, likewise; and the ruled search beside the Rust's `search`.
+fn avoid_and_search() {
+    let (avoids, sets) = (avoidance::answered(COUNT / 4), [vec![RuledCase::worst()], RuledCase::usual()]);
+    let (six, std) = (six_times(&avoids, &sets), std_times(&avoids, &sets));
+    row("avoid", measure(&avoids, |case| case.port(1)), six[0], std[0]);
+    for (i, name) in [(1, "ruled search, 32 contacts"), (2, "ruled search, 8 contacts")] {
+        let cases: Vec<&RuledCase> = sets[i - 1].iter().collect();
+        row(name, measure(&cases, |case| case.port(1)), six[i], std[i]);
+    }
 }

@@ -3,13 +3,19 @@
 use std::time::Duration;
 
 use crate::angle::{wrap180, wrap360};
+use crate::avoidance;
 use crate::big::{units, Big};
 use crate::inputs::{Random, LIMITS};
-use crate::{arcs, circular, math, method, motion, port, ruling};
+use crate::{arcs, assessment, circular, math, method, motion, port, ruling};
+
+/// The generator of a comparison's inputs.
+pub fn generator(name: &str) -> Random {
+    Random::new(name.bytes().map(u64::from).sum())
+}
 
 /// Runs a comparison `count` times and reports it; `case` answers the words of a difference.
 pub fn run(name: &str, count: u64, mut case: impl FnMut(u64, &mut Random) -> Option<String>) -> bool {
-    let mut random = Random::new(name.bytes().map(u64::from).sum());
+    let mut random = generator(name);
     let mut different = 0u64;
     for i in 0..count {
         if let Some(words) = case(i, &mut random) {
@@ -207,8 +213,24 @@ fn arc_function(f: &ArcFunction, count: u64) -> bool {
     equal && enclosed
 }
 
-/// Compares every function that is ported so far.
-pub fn all(count: u64) -> bool {
+/// Compares every function that is ported so far, or those of one part.
+pub fn all(count: u64, part: Option<&str>) -> bool {
+    let parts: &[(&str, fn(u64) -> bool)] = &[
+        ("elementary", elementary),
+        ("motion", motion::compare),
+        ("ruling", ruling::compare),
+        ("assessment", assessment::compare),
+        ("avoidance", avoidance::compare),
+    ];
+    let chosen: Vec<_> = parts.iter().filter(|(name, _)| part.is_none_or(|part| part == *name)).collect();
+    if chosen.is_empty() {
+        println!("there is no such part");
+    }
+    chosen.iter().fold(!chosen.is_empty(), |good, (_, compare)| compare(count) && good)
+}
+
+/// The elementary functions and what stands beside them.
+fn elementary(count: u64) -> bool {
     let mut good = true;
     good &= run("sqrt", count, |i, random| {
         let x = root_input(i, random);
@@ -279,8 +301,6 @@ pub fn all(count: u64) -> bool {
         equal(a as f64, port::is_before(a, b, c, d), Duration::new(a, b) < Duration::new(c, d))
     });
     good &= exact_multiplication();
-    good &= motion::compare(count);
-    good &= ruling::compare(count);
     good
 }
 

@@ -1,8 +1,12 @@
-//! `oracle compare [N]`: compares each ported function with its reference on N inputs (default 1,000,000).
+//! `oracle compare [N [PART]]`: compares each ported function with its reference on N inputs (default 1,000,000); with a part, those of
+//! `elementary`, `motion`, `ruling`, `assessment` or `avoidance` alone.
+//! `oracle outcomes [N]`: counts what the references of avoidance answer on the inputs that `compare` would use.
 //! `oracle vectors`: writes the records and answers that the gate replays.
 //! `oracle bench`: measures the port beside the Rust.
 
 mod arcs;
+mod assessment;
+mod avoidance;
 mod bench;
 mod big;
 mod circular;
@@ -23,14 +27,15 @@ fn main() {
     match words.first().map(String::as_str) {
         Some("compare") => {
             let count = words.get(1).map_or(1_000_000, |w| w.parse().expect("a number of inputs"));
-            if !compare::all(count) {
+            if !compare::all(count, words.get(2).map(String::as_str)) {
                 std::process::exit(1);
             }
         }
+        Some("outcomes") => avoidance::outcomes(words.get(1).map_or(1_000_000, |w| w.parse().expect("a number of inputs"))),
         Some("vectors") => vectors::write(),
         Some("bench") => bench::all(),
         _ => {
-            eprintln!("oracle compare [N] | vectors | bench");
+            eprintln!("oracle compare [N [PART]] | outcomes [N] | vectors | bench");
             std::process::exit(2);
         }
     }

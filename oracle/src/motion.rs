@@ -312,7 +312,7 @@ fn present_distance(encounter: [f64; 8]) -> f64 {
 }
 
 /// An encounter's arguments, some of them made to depend on others.
-fn related(arguments: [f64; 8], random: &mut Random) -> [f64; 8] {
+pub fn related(arguments: [f64; 8], random: &mut Random) -> [f64; 8] {
     let [mut own_course, mut own_speed, mut bearing, mut range, mut course, mut speed, mut desired, rest] = arguments;
     let quarters = 90.0 * random.below(4) as f64;
     let hair = any(&[0.0, 1e-9, -1e-9, 1e-7, -1e-7], random);

@@ -53,4 +53,29 @@ exports! {
         heading: f64, wind: f64, abaft: f64, width: f64
     ) -> u64;
     precedence = colregs_precedence(code: u32) -> u8;
+    assess = avoidance_assess(
+        part: u32, own_course: f64, own_speed: f64, bearing: f64, range: f64, course: f64, speed: f64, limit: f64, secs: u64, nanos: u32
+    ) -> u64;
+}
+
+exports! {
+    avoid = avoidance_avoid(
+        part: u32, sides: u32, has_rate: u32, own_course: f64, own_speed: f64, bearing: f64, range: f64, course: f64, speed: f64,
+        desired: f64, least: f64, most: f64, rate: f64
+    ) -> u64;
+}
+
+extern "C" {
+    fn avoidance_search(part: u32, sides: u32, count: usize, floats: *const f64, len: usize) -> u64;
+    fn avoidance_ruled(part: u32, codes: u32, count: usize, floats: *const f64, len: usize) -> u64;
+}
+
+pub fn search(part: u32, sides: u32, count: usize, floats: &[f64]) -> u64 {
+    // SAFETY: the function is proved for every argument, reads the floats alone and keeps nothing.
+    unsafe { avoidance_search(part, sides, count, floats.as_ptr(), floats.len()) }
+}
+
+pub fn ruled(part: u32, codes: u32, count: usize, floats: &[f64]) -> u64 {
+    // SAFETY: as above.
+    unsafe { avoidance_ruled(part, codes, count, floats.as_ptr(), floats.len()) }
 }

@@ -286,7 +286,7 @@ impl Case {
 }
 
 /// An argument that one of motion.rs's functions draws.
-fn drawn(draw: fn(Kind, &mut [u64], &mut Random), kind: Kind, random: &mut Random) -> f64 {
+pub fn drawn(draw: fn(Kind, &mut [u64], &mut Random), kind: Kind, random: &mut Random) -> f64 {
     let mut words = [0];
     draw(kind, &mut words, random);
     f64::from_bits(words[0])

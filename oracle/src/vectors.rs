@@ -6,9 +6,10 @@ use std::path::Path;
 
 use crate::angle::{wrap180, wrap360};
 use crate::arcs::{arcsine_input, arctangent_input};
+use crate::avoidance;
 use crate::compare::{angle_input, hypot_input, hypotenuse_holds, time};
 use crate::inputs::{Random, LIMITS};
-use crate::{math, method, motion, port, ruling};
+use crate::{assessment, math, method, motion, port, ruling};
 
 /// The pattern that stands for every NaN.
 const NAN: u64 = 0x7ff8_0000_0000_0000;
@@ -148,6 +149,8 @@ pub fn write() {
     let mut module = Module::default();
     motion::write(&mut module);
     ruling::write(&mut module);
+    assessment::write(&mut module);
+    avoidance::write(&mut module);
     store("module_main", &module.records, &module.answers);
 }
 

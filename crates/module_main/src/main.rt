@@ -1,4 +1,4 @@
-// Replays the Rust's answers on relative motion and rulings. Each record of standard input is sixteen little-endian words: the
+// Replays the Rust's answers on relative motion, rulings, assessment and avoidance. Each record of standard input is sixteen little-endian words: the
 // function's number, which part of its answer, and the arguments, floats as bit patterns. For each the program writes that part, as
 // sixteen hexadecimal digits on a line; the file `stdout` has what the Rust answers. How the records are made is said in
 // docs/COMPARISON.md.
@@ -56,6 +56,39 @@ fn ruling(record: &[u8; 128], part: u32) -> u64 {
     )
 }
 
+fn assess(record: &[u8; 128], part: u32) -> u64 {
+    exports_assessment::avoidance_assess(
+        part,
+        float_at(record, 16),
+        float_at(record, 24),
+        float_at(record, 32),
+        float_at(record, 40),
+        float_at(record, 48),
+        float_at(record, 56),
+        float_at(record, 64),
+        word(record, 72),
+        (word(record, 80) % 4294967296) as u32,
+    )
+}
+
+fn avoid(record: &[u8; 128], part: u32) -> u64 {
+    exports_avoidance::avoidance_avoid(
+        part,
+        (word(record, 16) % 4294967296) as u32,
+        (word(record, 24) % 4294967296) as u32,
+        float_at(record, 32),
+        float_at(record, 40),
+        float_at(record, 48),
+        float_at(record, 56),
+        float_at(record, 64),
+        float_at(record, 72),
+        float_at(record, 80),
+        float_at(record, 88),
+        float_at(record, 96),
+        float_at(record, 104),
+    )
+}
+
 fn answer(record: &[u8; 128]) -> u64 {
     let which = word(record, 0);
     let part = (word(record, 8) % 4294967296) as u32;
@@ -86,6 +119,8 @@ fn answer(record: &[u8; 128]) -> u64 {
         ),
         5 => exports_motion::motion_bearing(part, oc, os, bearing, range),
         6 => ruling(record, part),
+        8 => assess(record, part),
+        9 => avoid(record, part),
         _ => exports_ruling::colregs_precedence((word(record, 16) % 4294967296) as u32) as u64,
     }
 }

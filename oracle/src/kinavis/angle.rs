@@ -2,6 +2,7 @@
 
 use std::marker::PhantomData;
 
+use crate::error::Result;
 use crate::math;
 
 /// The whole fold: 0 up to 360.
@@ -46,6 +47,13 @@ pub type TrueBearing = Direction<True>;
 pub type RelativeBearing = Direction<Bow>;
 
 impl<Origin> Direction<Origin> {
+    pub const NORTH: Self = Self(0.0, PhantomData);
+
+    // Only functions on tracks, which are not ported, call this.
+    pub fn new(_: f64) -> Result<Self> {
+        unimplemented!()
+    }
+
     pub fn from_degrees_unchecked(degrees: f64) -> Self {
         Self(degrees, PhantomData)
     }
@@ -60,6 +68,12 @@ impl<Origin> Direction<Origin> {
 
     pub fn radians(self) -> f64 {
         math::to_radians(self.0)
+    }
+
+    /// A speed's parts, north and east.
+    pub fn components(self, speed: f64) -> (f64, f64) {
+        let radians = self.radians();
+        (speed * math::cos(radians), speed * math::sin(radians))
     }
 
     pub fn reciprocal(self) -> Self {

@@ -16,7 +16,7 @@ use crate::{ColregsConfig, Encounter, Responsibility, Ruling, Situation, Tack, V
 pub type Words = [u64; 8];
 pub type Answer = [u64; 6];
 
-fn distance(word: u64) -> Distance {
+pub fn distance(word: u64) -> Distance {
     Distance::from_nautical_miles_unchecked(f64::from_bits(word))
 }
 
@@ -24,11 +24,11 @@ fn direction<Origin>(word: u64) -> Direction<Origin> {
     Direction::from_degrees_unchecked(f64::from_bits(word))
 }
 
-fn vessel(course: u64, speed: u64) -> Vessel {
+pub fn vessel(course: u64, speed: u64) -> Vessel {
     Vessel { course: direction(course), speed: Speed::from_knots_unchecked(f64::from_bits(speed)) }
 }
 
-fn contact(bearing: u64, range: u64) -> Contact {
+pub fn contact(bearing: u64, range: u64) -> Contact {
     Contact { bearing: direction(bearing), range: distance(range) }
 }
 
@@ -41,7 +41,7 @@ const NO_SOLUTION: [&str; 5] = [
     "a course at this speed that opens the closest approach that far",
 ];
 
-fn number(error: NavigationError) -> u64 {
+pub fn number(error: NavigationError) -> u64 {
     match error {
         NavigationError::Kernel(KernelError::Indeterminate { .. }) => 6,
         NavigationError::Kernel(KernelError::OutOfRange { .. }) => 12,
@@ -135,7 +135,7 @@ pub const CATEGORIES: [VesselCategory; 8] = [
     VesselCategory::NotUnderCommand,
 ];
 
-fn party(motion: Vessel, code: u32, heading: Option<u64>) -> Party {
+pub fn party(motion: Vessel, code: u32, heading: Option<u64>) -> Party {
     let party = Party::new(motion, CATEGORIES[code as usize]);
     heading.map_or(party, |heading| party.with_heading(direction(heading)))
 }

@@ -9,6 +9,7 @@ pub use crate::navigation_error::*;
 pub enum KernelError {
     OutOfRange { what: &'static str },
     Indeterminate { quantity: &'static str },
+    Missing { what: &'static str },
     Unrepresentable { what: &'static str },
 }
 

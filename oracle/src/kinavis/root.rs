@@ -14,6 +14,9 @@ pub mod error;
 #[allow(dead_code)]
 pub mod local;
 #[allow(dead_code)]
+pub mod outside;
+pub mod traffic_calls;
+#[allow(dead_code)]
 pub mod units;
 
 include!(concat!(env!("OUT_DIR"), "/listed.rs"));
@@ -22,6 +25,9 @@ include!(concat!(env!("OUT_DIR"), "/listed.rs"));
 pub use colregs::{
     ColregsConfig, Encounter, PermittedManoeuvre, Responsibility, Rule, Ruling, Situation, Tack, VesselCategory, Visibility,
 };
+
+// What assessment.rs and avoidance.rs take from the roots of the kernel, of kinavis and of their own crate.
+pub use outside::{event, inline, position, sailings, snapshot, time, track, Traffic, MAX_TARGETS};
 
 /// Functions under libm's names that the standard library answers.
 macro_rules! of_std {

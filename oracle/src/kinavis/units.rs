@@ -3,15 +3,17 @@
 use std::ops::Neg;
 use std::time::Duration;
 
-use crate::error::{KernelError, Result};
+use crate::error::{KernelError, NavigationError, Result};
 
 /// A number with a unit: how it is made and read.
 macro_rules! unit {
     ($name:ident, $from:ident, $read:ident) => {
-        #[derive(Debug, Clone, Copy, PartialEq)]
+        #[derive(Debug, Clone, Copy, PartialEq, PartialOrd)]
         pub struct $name(f64);
 
         impl $name {
+            pub const ZERO: Self = Self(0.0);
+
             pub const fn $from(x: f64) -> Self {
                 Self(x)
             }
@@ -26,6 +28,32 @@ macro_rules! unit {
 unit!(Distance, from_nautical_miles_unchecked, nautical_miles);
 unit!(Speed, from_knots_unchecked, knots);
 unit!(Angle, from_degrees_unchecked, degrees);
+unit!(RateOfTurn, from_degrees_per_minute_unchecked, degrees_per_minute);
+
+/// What isn't finite is refused.
+fn finite(x: f64, what: &'static str) -> Result<f64> {
+    if x.is_finite() {
+        Ok(x)
+    } else {
+        Err(NavigationError::Kernel(KernelError::OutOfRange { what }))
+    }
+}
+
+impl Angle {
+    pub fn from_degrees(degrees: f64) -> Result<Self> {
+        finite(degrees, "an angle").map(Self)
+    }
+}
+
+impl RateOfTurn {
+    pub fn from_degrees_per_minute(rate: f64) -> Result<Self> {
+        finite(rate, "a rate of turn").map(Self)
+    }
+
+    pub fn abs(self) -> Self {
+        Self(self.0.abs())
+    }
+}
 
 pub fn hours(time: Duration) -> f64 {
     (time.as_secs() as f64 + f64::from(time.subsec_nanos()) / 1e9) / 3600.0

@@ -1,0 +1,2 @@
+-- The words of the C exports.
+pub mod Words
