@@ -15,9 +15,9 @@ use Rattle.arguments.specs.declared.Verdict.the-variants as Verdict
 use Rattle.arguments.specs.Check.{verdict, encounterChecks}
 use Rattle.arguments.proofs.Checks.{verdict-joined}
 use Rattle.relative_motion.specs.declared.approach.Approach.{Approach}
-use Rattle.relative_motion.specs.declared.bow.BowAnswer.{BowAnswer}
+use Rattle.bow.specs.declared.BowAnswer.{BowAnswer}
 use Rattle.relative_motion.specs.Approach.{approachFrom}
-use Rattle.relative_motion.specs.Bow.{crossing}
+use Rattle.bow.specs.Bow.{crossing}
 use Rattle.policy.specs.declared.CpaPolicy.{CpaPolicy}
 use Rattle.risk.specs.declared.CollisionRisk.{CollisionRisk}
 use Rattle.risk.specs.declared.PerhapsCpa.{PerhapsCpa}

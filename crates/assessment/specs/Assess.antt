@@ -10,7 +10,7 @@ use Rattle.arguments.specs.declared.Verdict.{Verdict}
 use Rattle.arguments.specs.declared.Verdict.the-variants as Verdict
 use Rattle.arguments.specs.Check.{verdict, encounterChecks}
 use Rattle.relative_motion.specs.Approach.{approachFrom}
-use Rattle.relative_motion.specs.Bow.{crossing}
+use Rattle.bow.specs.Bow.{crossing}
 use Rattle.policy.specs.declared.CpaPolicy.{CpaPolicy}
 use Rattle.risk.specs.declared.PerhapsCpa.{PerhapsCpa}
 use Rattle.risk.specs.declared.PerhapsCpa.the-variants as Cpas

@@ -12,7 +12,6 @@ use motion::vessel::Contact;
 use motion::vessel::Vessel;
 use policy::CpaPolicy;
 use relative_motion::approach;
-use relative_motion::bow;
 use risk::CollisionRisk;
 use risk::PerhapsCpa;
 use risk::PerhapsDistance;

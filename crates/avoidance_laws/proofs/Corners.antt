@@ -37,7 +37,7 @@ use Rattle.motion.specs.Vessel.{unit, resolved, directionOf, velocity, offset, 
 use Rattle.arguments.specs.Check.{verdict, isDirection, isSpeed, isDistance, encounterChecks}
 use Rattle.relative_motion.specs.declared.approach.Cpa.{Cpa}
 use Rattle.relative_motion.specs.Approach.{timeToGo, relativeSpeed, closingRate, timeOf, closest, approachFrom}
-use Rattle.relative_motion.specs.Bow.{notNegative, determinant, crossing}
+use Rattle.bow.specs.Bow.{notNegative, determinant, crossing}
 use Rattle.policy.specs.declared.CpaPolicy.{CpaPolicy}
 use Rattle.risk.specs.declared.PerhapsCpa.{PerhapsCpa}
 use Rattle.risk.specs.declared.PerhapsCpa.the-variants as Cpas

@@ -13,8 +13,8 @@ use Rattle.relative_motion.specs.declared.approach.PassAnswer.{PassAnswer}
 use Rattle.relative_motion.specs.declared.approach.PassAnswer.the-variants as PassAnswer
 use Rattle.relative_motion.specs.declared.approach.BearingAnswer.{BearingAnswer}
 use Rattle.relative_motion.specs.declared.approach.BearingAnswer.the-variants as BearingAnswer
-use Rattle.relative_motion.specs.declared.bow.BowAnswer.{BowAnswer}
-use Rattle.relative_motion.specs.declared.bow.BowAnswer.the-variants as BowAnswer
+use Rattle.bow.specs.declared.BowAnswer.{BowAnswer}
+use Rattle.bow.specs.declared.BowAnswer.the-variants as BowAnswer
 use Rattle.words.specs.declared.Words.{Words}
 use Rattle.words.specs.Words.{pattern, refused}
 

@@ -2,9 +2,10 @@
 // Word 0 is the refusal's number, or 0 where there is an answer; the others are 0 where it is refused. Floats are bit patterns.
 ghost use mathlib.Core.Path.{_≡_};
 ghost use Rattle.relative_motion.specs.Approach as Motion;
-ghost use Rattle.relative_motion.specs.Bow as Bow;
+ghost use Rattle.bow.specs.Bow as Bow;
 ghost use Rattle.words.specs.Words as Shared;
 ghost use Rattle.exports_motion.specs.Words as Spec;
+use bow::BowAnswer;
 use elementary::error::Refusal;
 use motion::units::Distance;
 use relative_motion::approach::Approach;
@@ -13,7 +14,6 @@ use relative_motion::approach::Cpa;
 use relative_motion::approach::CpaAnswer;
 use relative_motion::approach::Pass;
 use relative_motion::approach::PassAnswer;
-use relative_motion::bow::BowAnswer;
 use words::Words;
 
 // ---- the approach: its kind (0 closing, 1 opening, 2 stationary), distance, and where it closes bearing and time
@@ -185,7 +185,7 @@ pub extern "C" fn motion_bow(
     ensures { λ r. ⌜ r ≡ Shared.word (Spec.bowWords (Bow.bowAnswer (Shared.vessel oc os) (Shared.contact bearing range) (Shared.vessel tc ts))) part ⌝ }
 {
     words::word(
-        bow_words(relative_motion::bow::bow_crossing_range(
+        bow_words(bow::bow_crossing_range(
             words::vessel(oc, os),
             words::contact(bearing, range),
             words::vessel(tc, ts),

@@ -36,7 +36,7 @@ use Rattle.course.specs.declared.Choice.{Choice}
 use Rattle.arguments.specs.Check.{verdict, isDirection, isSpeed, isDistance, encounterChecks}
 use Rattle.motion.specs.Vessel.{unit, resolved, directionOf, velocity, offset, difference, relativeVelocity}
 use Rattle.relative_motion.specs.Approach.{timeToGo, relativeSpeed, closingRate, timeOf, closest, approachFrom, approach, cpaAnswer, cpaNumber, approachKind}
-use Rattle.relative_motion.specs.Bow.{notNegative, determinant, crossing, bowAnswer, bowNumber}
+use Rattle.bow.specs.Bow.{notNegative, determinant, crossing, bowAnswer, bowNumber}
 use Rattle.plot.specs.Plot.{relativeMotion, targetOf, solution, solved, plotChecks, plotVerdict, plotAnswer, plotNumber}
 use Rattle.course.specs.Course.{clamped, grazing, offered, atSpeed, along, choiceOf, avoidanceOf, courseFor, courseAnswer, courseNumber}
 

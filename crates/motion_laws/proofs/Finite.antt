@@ -34,8 +34,8 @@ use Rattle.math.proofs.Sign.{abs-fits, abs-units, units-of-abs}
 use Rattle.elementary.specs.declared.error.Refusal.the-variants as Why
 use Rattle.relative_motion.specs.declared.approach.CpaAnswer.{CpaAnswer}
 use Rattle.relative_motion.specs.declared.approach.CpaAnswer.the-variants as CpaAnswer
-use Rattle.relative_motion.specs.declared.bow.BowAnswer.the-variants as BowAnswer
-use Rattle.relative_motion.specs.Bow.{parallel, tolerance, notNegative, determinant, crossing, bowBy, bowAnswer}
+use Rattle.bow.specs.declared.BowAnswer.the-variants as BowAnswer
+use Rattle.bow.specs.Bow.{parallel, tolerance, notNegative, determinant, crossing, bowBy, bowAnswer}
 use Rattle.inverse.specs.Atan2.{atan2}
 use Rattle.inverse.proofs.Sizes.{atan2-small}
 use Rattle.arguments.specs.declared.Verdict.{Verdict}

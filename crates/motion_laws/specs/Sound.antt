@@ -24,8 +24,8 @@ use Rattle.relative_motion.specs.declared.approach.PassAnswer.{PassAnswer}
 use Rattle.relative_motion.specs.declared.approach.PassAnswer.the-variants as PassAnswer
 use Rattle.relative_motion.specs.declared.approach.BearingAnswer.{BearingAnswer}
 use Rattle.relative_motion.specs.declared.approach.BearingAnswer.the-variants as BearingAnswer
-use Rattle.relative_motion.specs.declared.bow.BowAnswer.{BowAnswer}
-use Rattle.relative_motion.specs.declared.bow.BowAnswer.the-variants as BowAnswer
+use Rattle.bow.specs.declared.BowAnswer.{BowAnswer}
+use Rattle.bow.specs.declared.BowAnswer.the-variants as BowAnswer
 use Rattle.plot.specs.declared.TargetSolution.{TargetSolution}
 use Rattle.plot.specs.declared.PlotAnswer.{PlotAnswer}
 use Rattle.plot.specs.declared.PlotAnswer.the-variants as PlotAnswer

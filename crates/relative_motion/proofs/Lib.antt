@@ -1,3 +1,2 @@
 -- What the code of relative motion owes.
 pub mod Approaches
-pub mod Crossings

@@ -1,3 +1,2 @@
 -- Relative motion.
 pub mod Approach
-pub mod Bow

@@ -4,4 +4,3 @@
 // outside document 01's ranges are refused by its numbers, in its order. The definitions in specs/ follow the Rust operation by
 // operation.
 pub mod approach;
-pub mod bow;

@@ -12,8 +12,8 @@ use Rattle.arguments.specs.Check.{zero}
 use Rattle.relative_motion.specs.declared.approach.Cpa.{Cpa}
 use Rattle.relative_motion.specs.declared.approach.Approach.{Approach}
 use Rattle.relative_motion.specs.declared.approach.Approach.the-variants as Approach
-use Rattle.relative_motion.specs.declared.bow.BowAnswer.{BowAnswer}
-use Rattle.relative_motion.specs.declared.bow.BowAnswer.the-variants as BowAnswer
+use Rattle.bow.specs.declared.BowAnswer.{BowAnswer}
+use Rattle.bow.specs.declared.BowAnswer.the-variants as BowAnswer
 use Rattle.policy.specs.declared.CpaPolicy.{CpaPolicy}
 use Rattle.risk.specs.declared.CollisionRisk.{CollisionRisk}
 use Rattle.risk.specs.declared.CollisionRisk.the-variants.{Opening, Passing, Developing, Dangerous}

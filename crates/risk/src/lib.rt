@@ -2,13 +2,13 @@
 // the vessel's limits. From assessment.rs; the definitions in specs/ follow it operation by operation.
 ghost use mathlib.Core.Path.{_≡_};
 ghost use Rattle.risk.specs.Risk as Spec;
+use bow::BowAnswer;
 use motion::units::Distance;
 use motion::units::RateOfTurn;
 use motion::vessel::Components;
 use policy::CpaPolicy;
 use relative_motion::approach::Approach;
 use relative_motion::approach::Cpa;
-use relative_motion::bow::BowAnswer;
 
 // In the order of concern: the range opens or stays; the closest approach is outside the limit; inside it but late; inside both.
 pub enum CollisionRisk {

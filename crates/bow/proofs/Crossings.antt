@@ -11,11 +11,11 @@ use Rattle.arguments.specs.declared.Verdict.the-variants.{Accepted, Refused}
 use Rattle.motion.specs.declared.vessel.Vessel.{Vessel}
 use Rattle.motion.specs.declared.vessel.Contact.{Contact}
 use Rattle.motion.specs.declared.vessel.Components.{Components}
-use Rattle.relative_motion.specs.declared.bow.BowAnswer.{BowAnswer}
-use Rattle.relative_motion.specs.declared.bow.BowAnswer.the-variants as BowAnswer
+use Rattle.bow.specs.declared.BowAnswer.{BowAnswer}
+use Rattle.bow.specs.declared.BowAnswer.the-variants as BowAnswer
 use Rattle.arguments.specs.Check.{zero, verdict, encounterChecks}
 use Rattle.motion.specs.Vessel.{unit, offset, relativeVelocity}
-use Rattle.relative_motion.specs.Bow.{parallel, tolerance, notNegative, determinant, crossing, bowBy, bowAnswer}
+use Rattle.bow.specs.Bow.{parallel, tolerance, notNegative, determinant, crossing, bowBy, bowAnswer}
 
 -- ---- the crossing
 module _ (range : Float) (position relative ahead : Components) (size : Float) (is : size ≡ abs (relative .north ⊗ neg (ahead .east) ⊖ relative .east ⊗ neg (ahead .north))) where

@@ -1,6 +1,7 @@
-// The range ahead at which a contact crosses own track.
+// The range ahead at which a contact crosses own track, from relative_motion.rs. Arguments outside the ranges of document 01 are
+// refused by its numbers, in its order. The definitions in specs/ follow the Rust operation by operation.
 ghost use mathlib.Core.Path.{_≡_};
-ghost use Rattle.relative_motion.specs.Bow as Spec;
+ghost use Rattle.bow.specs.Bow as Spec;
 use arguments::Verdict;
 use elementary::error::Refusal;
 use motion::units::Distance;

@@ -1,7 +1,7 @@
-use Rattle.relative_motion.proofs.Crossings.{crossed, crossing-refused}
+use Rattle.bow.proofs.Crossings.{crossed, crossing-refused}
 use borrow.Author.Needs.{needs}
-use Rattle.relative_motion.proofs.bow.bow_crossing_range.Statement.{statement}
-use Rattle.relative_motion.proofs.bow.bow_crossing_range.Tie as tie
+use Rattle.bow.proofs.bow_crossing_range.Statement.{statement}
+use Rattle.bow.proofs.bow_crossing_range.Tie as tie
 
 check-encounter-requires : tie.Need-check-encounter-requires
 check-encounter-requires c κs = search needs

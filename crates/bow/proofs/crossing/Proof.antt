@@ -1,7 +1,7 @@
-use Rattle.relative_motion.proofs.Crossings.{on-own-track, in-the-past, astern, ahead-of-bow}
+use Rattle.bow.proofs.Crossings.{on-own-track, in-the-past, astern, ahead-of-bow}
 use borrow.Author.Needs.{needs}
-use Rattle.relative_motion.proofs.bow.crossing.Statement.{statement}
-use Rattle.relative_motion.proofs.bow.crossing.Tie as tie
+use Rattle.bow.proofs.crossing.Statement.{statement}
+use Rattle.bow.proofs.crossing.Tie as tie
 
 abs-requires : tie.Need-abs-requires
 abs-requires c κs = search needs

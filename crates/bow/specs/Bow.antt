@@ -11,8 +11,8 @@ use Rattle.arguments.specs.declared.Verdict.the-variants as Verdict
 use Rattle.motion.specs.declared.vessel.Vessel.{Vessel}
 use Rattle.motion.specs.declared.vessel.Contact.{Contact}
 use Rattle.motion.specs.declared.vessel.Components.{Components}
-use Rattle.relative_motion.specs.declared.bow.BowAnswer.{BowAnswer}
-use Rattle.relative_motion.specs.declared.bow.BowAnswer.the-variants as BowAnswer
+use Rattle.bow.specs.declared.BowAnswer.{BowAnswer}
+use Rattle.bow.specs.declared.BowAnswer.the-variants as BowAnswer
 use Rattle.arguments.specs.Check.{zero, verdict, encounterChecks}
 use Rattle.motion.specs.Vessel.{unit, offset, relativeVelocity}
 

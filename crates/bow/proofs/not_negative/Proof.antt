@@ -1,7 +1,7 @@
 use mathlib.Core.Path.{refl}
-use Rattle.relative_motion.specs.Bow.{notNegative}
-use Rattle.relative_motion.proofs.bow.not_negative.Statement.{statement}
-use Rattle.relative_motion.proofs.bow.not_negative.Tie as tie
+use Rattle.bow.specs.Bow.{notNegative}
+use Rattle.bow.proofs.not_negative.Statement.{statement}
+use Rattle.bow.proofs.not_negative.Tie as tie
 
 returns : tie.Need-returns
 unfolding notNegative

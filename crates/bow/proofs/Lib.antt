@@ -1,0 +1,2 @@
+-- What the code of the bow crossing owes.
+pub mod Crossings

@@ -1,0 +1,2 @@
+-- The bow crossing.
+pub mod Bow
