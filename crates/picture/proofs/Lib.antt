@@ -1,0 +1,3 @@
+-- What the code of the picture owes.
+pub mod Loops
+pub mod Ranks

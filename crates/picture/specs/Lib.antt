@@ -1,0 +1,2 @@
+-- The collision picture.
+pub mod Picture

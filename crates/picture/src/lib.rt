@@ -1,0 +1,187 @@
+// The collision picture: targets assessed against own craft at one instant (assessment.rs, `CollisionPicture`), a fixed array and a count.
+ghost use mathlib.Core.Path.{_≡_};
+ghost use mathlib.Core.List.{[], _∷_};
+ghost use lib.Dec.{eqb};
+ghost use lib.ListN.{length};
+ghost use Rattle.picture.specs.Picture as Spec;
+use assessment::assess::CollisionAssessment;
+use assessment::assess::PerhapsTime;
+use clearing::MAX_CONTACTS;
+use risk::CollisionRisk;
+use time::Duration;
+
+// An assessment, and the number by which its target is known.
+pub struct TargetAssessment {
+    pub target: u32,
+    pub assessment: CollisionAssessment,
+}
+
+// The first `count` of the list, in the order in which they were listed.
+pub struct CollisionPicture {
+    pub count: usize,
+    pub list: [TargetAssessment; MAX_CONTACTS],
+}
+
+pub enum PerhapsTarget {
+    Nothing,
+    Of(TargetAssessment),
+}
+
+// The time to go, the longest one where the range does not close.
+fn time_of(p: PerhapsTime) -> Duration
+    ensures { λ r. ⌜ r ≡ Spec.timeOf p ⌝ }
+{
+    match p {
+        PerhapsTime::Nothing => Duration {
+            secs: 18446744073709551615,
+            nanos: 999999999,
+        },
+        PerhapsTime::Of(d) => d,
+    }
+}
+
+// Whether one is more dangerous than another: a higher risk, or the same and less time.
+fn outranks(a: CollisionAssessment, b: CollisionAssessment) -> bool
+    ensures { λ r. ⌜ r ≡ Spec.outranks a b ⌝ }
+{
+    let first = a.risk();
+    let second = b.risk();
+    let rank = first.rank();
+    let other = second.rank();
+    if rank == other {
+        let time = time_of(a.tcpa());
+        return time.is_before(time_of(b.tcpa()));
+    }
+    other < rank
+}
+
+fn keep(best: PerhapsTarget, e: TargetAssessment) -> PerhapsTarget
+    ensures { λ r. ⌜ r ≡ Spec.keep best e ⌝ }
+{
+    match best {
+        PerhapsTarget::Nothing => PerhapsTarget::Of(e),
+        PerhapsTarget::Of(b) => {
+            let held = b.assessment;
+            let next = e.assessment;
+            if outranks(held, next) {
+                return PerhapsTarget::Of(b);
+            }
+            PerhapsTarget::Of(e)
+        }
+    }
+}
+
+fn or_this(found: PerhapsTarget, target: u32, e: TargetAssessment) -> PerhapsTarget
+    ensures { λ r. ⌜ r ≡ Spec.orThis target found e ⌝ }
+{
+    match found {
+        PerhapsTarget::Of(t) => PerhapsTarget::Of(t),
+        PerhapsTarget::Nothing => {
+            if e.target == target {
+                return PerhapsTarget::Of(e);
+            }
+            PerhapsTarget::Nothing
+        }
+    }
+}
+
+fn is_at_least(e: TargetAssessment, least: CollisionRisk) -> bool
+    ensures { λ r. ⌜ r ≡ Spec.isAtLeast least e ⌝ }
+{
+    let assessment = e.assessment;
+    let risk = assessment.risk();
+    least.rank() <= risk.rank()
+}
+
+impl CollisionPicture {
+    // A picture of one target.
+    pub fn of(first: TargetAssessment) -> CollisionPicture
+        ensures { λ r. ⌜ Spec.targets r ≡ first ∷ [] ⌝ }
+    {
+        CollisionPicture {
+            count: 1,
+            list: [first; MAX_CONTACTS],
+        }
+    }
+
+    // With one target more, where there is room.
+    pub fn push(self, e: TargetAssessment) -> CollisionPicture
+        ensures { λ r. ⌜ Spec.targets r ≡ Spec.pushed (Spec.targets self) e ⌝ }
+    {
+        let at = clearing::held(self.count);
+        let mut out = self;
+        if at < MAX_CONTACTS {
+            out.list[at] = e;
+            out.count = at + 1;
+        }
+        out
+    }
+
+    // How many targets are assessed.
+    pub fn len(self) -> usize
+        ensures { λ r. ⌜ r ≡ length (Spec.targets self) ⌝ }
+    {
+        clearing::held(self.count)
+    }
+
+    pub fn is_empty(self) -> bool
+        ensures { λ r. ⌜ r ≡ eqb (length (Spec.targets self)) 0 ⌝ }
+    {
+        clearing::held(self.count) == 0
+    }
+
+    // The first that is listed under a number.
+    pub fn target(self, target: u32) -> PerhapsTarget
+        ensures { λ r. ⌜ r ≡ Spec.found target (Spec.targets self) ⌝ }
+    {
+        let count = clearing::held(self.count);
+        let mut found = PerhapsTarget::Nothing;
+        let mut i: usize = 0;
+        while i < count {
+            let e = self.list[i];
+            found = or_this(found, target, e);
+            i += 1;
+        }
+        found
+    }
+
+    // The highest risk, then the least time to go, then the last listed; none in an empty picture.
+    pub fn most_dangerous(self) -> PerhapsTarget
+        ensures { λ r. ⌜ r ≡ Spec.mostDangerous (Spec.targets self) ⌝ }
+    {
+        let count = clearing::held(self.count);
+        let mut best = PerhapsTarget::Nothing;
+        let mut i: usize = 0;
+        while i < count {
+            let e = self.list[i];
+            best = keep(best, e);
+            i += 1;
+        }
+        best
+    }
+
+    fn push_if(self, least: CollisionRisk, e: TargetAssessment) -> CollisionPicture
+        ensures { λ r. ⌜ Spec.targets r ≡ Spec.pushedIf least (Spec.targets self) e ⌝ }
+    {
+        if is_at_least(e, least) {
+            return self.push(e);
+        }
+        self
+    }
+
+    // Those of at least a risk, in their order.
+    pub fn at_least(self, least: CollisionRisk) -> CollisionPicture
+        ensures { λ r. ⌜ Spec.targets r ≡ Spec.atLeast least (Spec.targets self) ⌝ }
+    {
+        let count = clearing::held(self.count);
+        let mut out = self;
+        out.count = 0;
+        let mut i: usize = 0;
+        while i < count {
+            let e = self.list[i];
+            out = out.push_if(least, e);
+            i += 1;
+        }
+        out
+    }
+}
