@@ -1,7 +1,7 @@
 //! Builds the port's archives and lays the listed Rust files ready, unchanged.
 //!
 //! The Rust is read from KINAVIS_SRC, or from `../shared/docs/src` beside the repository, and copied into OUT_DIR; none of
-//! it is kept here. Every copy is the file's text, byte for byte; avoidance.rs's has one line more, at its end (see `PROBED`).
+//! it is kept here. Every copy is the file's text, byte for byte; those of assessment.rs and avoidance.rs have one line more, at their end (see `PROBED`).
 
 use std::path::{Path, PathBuf};
 use std::process::Command;
@@ -9,7 +9,8 @@ use std::{env, fs};
 
 /// The archives with the port's C exports.
 const ARCHIVES: &[&str] = &[
-    "exports_elementary", "exports", "exports_time", "exports_motion", "exports_course", "exports_ruling", "exports_assessment", "exports_avoidance",
+    "exports_elementary", "exports", "exports_time", "exports_motion", "exports_course", "exports_ruling", "exports_assessment", "exports_picture",
+    "exports_avoidance",
 ];
 
 /// The listed files in use: module name and path below the sources' folder. The name `error` is the kernel's, and `assessment` and
@@ -20,12 +21,13 @@ const LISTED: &[(&str, &str)] = &[
     ("relative_motion", "crates/kinavis/src/relative_motion.rs"),
     ("colregs", "crates/kinavis-colregs/src/lib.rs"),
     ("traffic_assessment", "crates/kinavis-traffic/src/assessment.rs"),
-    (PROBED, "crates/kinavis-traffic/src/avoidance.rs"),
+    ("traffic_avoidance", "crates/kinavis-traffic/src/avoidance.rs"),
 ];
 
-/// The listed file whose private `search` is the reference for lists of contacts. A line at the end of its copy names a child module,
-/// `oracle/src/kinavis/probe.rs`, since a child may use what is private to its parent; the text before that line is the file's.
-const PROBED: &str = "traffic_avoidance";
+/// The listed files whose private parts are references: the picture's fields, and `search` over lists of contacts. A line at the end of the
+/// copy names a child module in `oracle/src/kinavis/`, since a child may use what is private to its parent; the text before that line
+/// is the file's.
+const PROBED: &[(&str, &str)] = &[("traffic_assessment", "picture_probe.rs"), ("traffic_avoidance", "probe.rs")];
 
 /// The listed files that a listed file names as its own module, which Rust then looks for beside it.
 const NESTED: &[(&str, &str)] = &[("rules", "crates/kinavis-colregs/src/rules.rs")];
@@ -49,12 +51,11 @@ fn build_archives(root: &Path) {
 fn copy_listed(root: &Path) {
     let from = env::var("KINAVIS_SRC").map_or_else(|_| root.join("../shared/docs/src"), PathBuf::from);
     let out = PathBuf::from(env::var("OUT_DIR").unwrap());
-    let probe = format!("#[path = {:?}] pub mod probe;\n", root.join("oracle/src/kinavis/probe.rs"));
     let copy = |module: &str, path: &str| {
         let (source, copy) = (from.join(path), out.join(format!("{module}.rs")));
         let mut text = fs::read(&source).unwrap_or_else(|e| panic!("{}: {e} (set KINAVIS_SRC)", source.display()));
-        if module == PROBED {
-            text.extend(probe.bytes());
+        if let Some((_, probe)) = PROBED.iter().find(|(name, _)| *name == module) {
+            text.extend(format!("#[path = {:?}] pub mod probe;\n", root.join("oracle/src/kinavis").join(probe)).bytes());
         }
         fs::write(&copy, text).unwrap();
         println!("cargo:rerun-if-changed={}", source.display());

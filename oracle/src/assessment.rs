@@ -6,7 +6,7 @@ use crate::inputs::{neighbour, Random};
 use crate::motion::Kind::{self, Direction, Distance, Elapsed, Speed};
 use crate::motion::{accepted, any, bad, collision_bearing, is_accepted, turning};
 use crate::port;
-use crate::traffic_calls::{assess, AssessArguments, AssessWords};
+use crate::traffic_calls::{assess, picture, AssessArguments, AssessWords};
 use crate::vectors::Module;
 
 /// The arguments in the order in which document 01 checks them. The time is two words.
@@ -218,7 +218,43 @@ pub fn compare(count: u64) -> bool {
     });
     println!("assess: cases by number from 0 on {:?}; by risk {:?}", tally.numbers, tally.risks);
     println!("assess: CPA equal to the limit {}, time equal to the limit {}", tally.equal_cpa, tally.equal_time);
-    good
+    let mut sizes = [0; 4];
+    let pictures = run("picture", count / 10, |_, random| picture_difference(random, &mut sizes));
+    println!("picture: by contacts, eight at a time {sizes:?}");
+    good && pictures
+}
+
+/// Contacts of a picture: few bearings, times and speeds, so that risks and times are often equal while ranges differ; some refused.
+fn pictured(random: &mut Random) -> Vec<[f64; 4]> {
+    let count = 1 + random.below(32) as usize;
+    let pick = |random: &mut Random, from: &[f64]| from[random.below(from.len() as u64) as usize];
+    let contact = |random: &mut Random| {
+        if random.below(12) == 0 {
+            return [0.0, -1.0, 0.0, 0.0];
+        }
+        // A range that grows with the closing speed gives the same time.
+        let (speed, hours) = (pick(random, &[0.0, 5.0, 10.0, 20.0, 30.0]), pick(random, &[0.2, 0.25, 0.4, 2.0]));
+        let bearing = pick(random, &[0.0, 0.0, 5.0, 90.0, 180.0, 270.0]);
+        [bearing, (10.0 + speed) * hours, pick(random, &[180.0, 180.0, 0.0, bearing]), speed]
+    };
+    (0..count).map(|_| contact(random)).collect()
+}
+
+/// Parts of a picture.
+const PICTURE: u32 = 15;
+
+/// Whether the parts of one picture differ, and which.
+fn picture_difference(random: &mut Random, sizes: &mut [u64; 4]) -> Option<String> {
+    let (limit, secs) = ([0.0, 1.0, 3.0][random.below(3) as usize], [0, 900, 1440, 3600][random.below(4) as usize]);
+    let contacts = pictured(random);
+    let bits = |c: &[f64; 4]| (c[1] >= 0.0).then(|| c.map(f64::to_bits));
+    let encounters: Vec<_> = contacts.iter().map(bits).collect();
+    let first = encounters[0].is_some();
+    let wanted = if first { picture(limit, secs, [0.0f64, 10.0].map(f64::to_bits), &encounters) } else { None }.unwrap_or([0; 15]);
+    sizes[(contacts.len() - 1) / 8] += 1;
+    let floats: Vec<f64> = [0.0, 10.0].into_iter().chain(contacts.iter().flatten().copied()).collect();
+    let got: Vec<u64> = (0..PICTURE).map(|part| port::picture(part, contacts.len(), limit, secs, &floats)).collect();
+    (got != wanted).then(|| format!("{limit} {secs} {contacts:?}: {got:?}, not {wanted:?}"))
 }
 
 /// The function's number in the records.

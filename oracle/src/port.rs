@@ -66,12 +66,18 @@ exports! {
 }
 
 extern "C" {
+    fn avoidance_picture(part: u32, count: usize, limit: f64, secs: u64, floats: *const f64, len: usize) -> u64;
     fn avoidance_search(part: u32, sides: u32, count: usize, floats: *const f64, len: usize) -> u64;
     fn avoidance_ruled(part: u32, codes: u32, count: usize, floats: *const f64, len: usize) -> u64;
 }
 
-pub fn search(part: u32, sides: u32, count: usize, floats: &[f64]) -> u64 {
+pub fn picture(part: u32, count: usize, limit: f64, secs: u64, floats: &[f64]) -> u64 {
     // SAFETY: the function is proved for every argument, reads the floats alone and keeps nothing.
+    unsafe { avoidance_picture(part, count, limit, secs, floats.as_ptr(), floats.len()) }
+}
+
+pub fn search(part: u32, sides: u32, count: usize, floats: &[f64]) -> u64 {
+    // SAFETY: as above.
     unsafe { avoidance_search(part, sides, count, floats.as_ptr(), floats.len()) }
 }
 

@@ -50,29 +50,34 @@ pub mod event {
     }
 }
 
-/// The kernel's inline.rs, not at hand.
+/// The kernel's inline.rs, not at hand: a fixed array and a count, as document 01 says.
 pub mod inline {
     use std::ops::Deref;
 
     /// Up to N entries.
     #[derive(Debug, Clone, Copy, PartialEq)]
-    pub struct Inline<T, const N: usize>([T; N]);
+    pub struct Inline<T, const N: usize> {
+        entries: [T; N],
+        count: usize,
+    }
 
     impl<T: Copy, const N: usize> Inline<T, N> {
         pub fn new(placeholder: T) -> Self {
-            Self([placeholder; N])
+            Self { entries: [placeholder; N], count: 0 }
         }
 
-        pub fn push(&mut self, _: T) -> Result<(), ()> {
-            unimplemented!()
+        pub fn push(&mut self, entry: T) -> Result<(), ()> {
+            *self.entries.get_mut(self.count).ok_or(())? = entry;
+            self.count += 1;
+            Ok(())
         }
 
         pub const fn len(&self) -> usize {
-            unimplemented!()
+            self.count
         }
 
         pub const fn is_empty(&self) -> bool {
-            unimplemented!()
+            self.count == 0
         }
     }
 
@@ -80,7 +85,7 @@ pub mod inline {
         type Target = [T];
 
         fn deref(&self) -> &[T] {
-            unimplemented!()
+            &self.entries[..self.count]
         }
     }
 }
@@ -100,6 +105,11 @@ pub mod time {
 
     #[derive(Debug, Clone, Copy, PartialEq)]
     pub struct Instant<Scale>(PhantomData<Scale>);
+
+    impl<Scale> Instant<Scale> {
+        /// Some time: no function in scope looks at it.
+        pub const SOME: Self = Self(PhantomData);
+    }
 }
 
 /// The kernel's snapshot.rs, not at hand.

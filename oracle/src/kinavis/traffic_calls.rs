@@ -7,13 +7,16 @@ use crate::calls::{contact, distance, number, party, vessel, CATEGORIES};
 use crate::colregs::{rule_of_the_road, Party};
 use crate::error::{NavigationError, Result};
 use crate::relative_motion::{Contact, Vessel};
-use crate::traffic_assessment::{assess as assessed, CollisionRisk, CpaPolicy};
+use crate::event::TargetId;
+use crate::traffic_assessment::probe::picture as all;
+use crate::traffic_assessment::{assess as assessed, CollisionRisk, CpaPolicy, TargetAssessment};
 use crate::traffic_avoidance::probe::searched;
 use crate::traffic_avoidance::{avoid as avoided, AvoidanceManoeuvre, ManoeuvreConstraints, PermittedSides};
 use crate::units::{Angle, Distance, RateOfTurn};
 use crate::{ColregsConfig, Situation, Visibility};
 
 pub type AssessWords = [u64; 14];
+pub type PictureWords = [u64; 15];
 pub type AvoidWords = [u64; 9];
 pub type SearchWords = [u64; 5];
 
@@ -47,6 +50,33 @@ pub fn assess([own_course, own_speed, bearing, range, course, speed, limit, secs
     let [relative_course, relative_speed, drift] = relative.map(f64::to_bits);
     let (range, bearing) = (miles(answer.range()), answer.bearing().degrees().to_bits());
     [0, relative_course, relative_speed, drift, has_cpa, near, bearing_at_cpa, secs, nanos, crosses, ahead, risk, range, bearing]
+}
+
+/// The picture of up to 32 contacts that are assessed, with the remainder of their place by 5 as their number: its length, the range of the
+/// most dangerous target and of the first target of each number, and for each risk how many are of at least that and the range of the most
+/// dangerous of them. A list of encounters that are accepted or not (`None`).
+pub fn picture(limit: f64, secs: u64, own: [u64; 2], contacts: &[Option<[u64; 4]>]) -> Option<PictureWords> {
+    let policy = CpaPolicy::new(distance(limit.to_bits()), Duration::new(secs, 0)).expect("an accepted policy");
+    let assessed = |&[bearing, range, course, speed]: &[u64; 4]| {
+        assessed(vessel(own[0], own[1]), contact(bearing, range), vessel(course, speed), &policy).expect("accepted arguments")
+    };
+    let of = |(place, encounter): (usize, &Option<[u64; 4]>)| encounter.as_ref().map(|e| (place % 5, assessed(e)));
+    let list: Vec<_> = contacts.iter().enumerate().filter_map(of).collect();
+    let whole = all::<32>(&list)?;
+    let range = |target: Option<&TargetAssessment>| target.map_or(0, |t| miles(t.assessment.range()));
+    let mut words = [0; 15];
+    words[0] = whole.len() as u64;
+    words[1] = range(whole.most_dangerous());
+    for number in 0..5 {
+        words[2 + number] = range(whole.target(TargetId::new(number)));
+    }
+    let risks = [CollisionRisk::Opening, CollisionRisk::Passing, CollisionRisk::Developing, CollisionRisk::Dangerous];
+    for (i, least) in risks.into_iter().enumerate() {
+        let kept: Vec<_> = whole.at_least(least).map(|t| (t.target.number(), t.assessment)).collect();
+        words[7 + i] = kept.len() as u64;
+        words[11 + i] = all::<32>(&kept).map_or(0, |kept| range(kept.most_dangerous()));
+    }
+    Some(words)
 }
 
 fn miles(d: Distance) -> u64 {

@@ -1,0 +1,2 @@
+-- The loop that makes the picture.
+pub mod Making

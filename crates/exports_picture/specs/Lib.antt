@@ -1,0 +1,2 @@
+-- The collision picture as the C exports have it.
+pub mod Words
