@@ -83,7 +83,7 @@ module _ (desired : Distance) (v : Vessel) (e : Entry) where
     unfolding encounterChecks targetOf
     good = (o .course, (o .speed, (f .contact .bearing, (f .contact .range, (f .vessel .course, (f .vessel .speed, tt))))))
 
-    answers : approachTo v e ≡ CpaAnswer.Of (approach v (e .contact) (e .target .motion))
+    pub answers : approachTo v e ≡ CpaAnswer.Of (approach v (e .contact) (e .target .motion))
     unfolding cpaAnswer
     answers = ap (λ w. cpaBy w (approach v (e .contact) (e .target .motion))) (accepted (encounterChecks v (e .contact) (e .target .motion)) good)
 

@@ -16,6 +16,9 @@ use Rattle.motion.specs.declared.vessel.Vessel.{Vessel}
 use Rattle.arguments.specs.declared.Verdict.{Verdict}
 use Rattle.arguments.specs.declared.Verdict.the-variants as Verdict
 use Rattle.arguments.specs.Check.{verdict}
+use Rattle.relative_motion.specs.declared.approach.Approach.{Approach}
+use Rattle.relative_motion.specs.declared.approach.CpaAnswer.the-variants as CpaAnswer
+use Rattle.relative_motion.specs.Approach.{approach}
 use Rattle.situation.specs.declared.party.Party.{Party}
 use Rattle.situation.specs.declared.party.Perhaps.{Perhaps}
 use Rattle.situation.specs.declared.party.Visibility.{Visibility}
@@ -48,7 +51,7 @@ use Rattle.rulings.specs.declared.RuledManoeuvre.{RuledManoeuvre}
 use Rattle.rulings.specs.declared.RuledAnswer.{RuledAnswer}
 use Rattle.rulings.specs.declared.RuledAnswer.the-variants.{Of, Refused}
 use Rattle.rulings.specs.Ruled.{sharedSides, ruledChecks, manoeuvreOf, chosenAnswer, answered, ruled, ruledBy, ruledNumber, ruledAnswer}
-use Rattle.rulings.specs.Demand3.{Shared, Trial, Clears, Smallest, OnAccepted, Demand3}
+use Rattle.rulings.specs.Demand3.{approachTo, Shared, Trial, Clears, Smallest, OnAccepted, Demand3}
 use Rattle.ruled_laws.specs.Held.{HeldArguments}
 use Rattle.ruled_laws.proofs.Accepted as Accepted
 use Rattle.ruled_laws.proofs.Contacts as Contacts
@@ -105,6 +108,9 @@ module _ (own : Party) (count : ℕ) (entries : List Entry) (visibility : Visibi
 
       fit : FitVessel (altered (own .motion) (signed side m))
       fit = altered-fit (own .motion) (signed side m) (Accepted.own-fit own count entries wind desired c h k) (signed-small side m (trial-small least most (Accepted.limits own count entries wind desired c h k) m t))
+
+      approaches : (e : Entry) → List·Memᴰ e entries → (a : Approach) × (approachTo (altered (own .motion) (signed side m)) e ≡ CpaAnswer.Of a)
+      approaches e i = (approach (altered (own .motion) (signed side m)) (e .contact) (e .target .motion), Contacts.answers desired (altered (own .motion) (signed side m)) e fit (Accepted.entry-fit own count entries wind desired c h k e i))
 
       fails : clearsBy side m ≡ No → Clears own entries visibility wind desired c side m → ⊥
       unfolding trialClears clears
@@ -217,6 +223,7 @@ module _ (own : Party) (count : ℕ) (entries : List Entry) (visibility : Visibi
     on-accepted : OnAccepted own entries visibility wind desired c answer
     on-accepted = record {
       «each-ruled» = λ e m. (rulingOf standard (factsOf _), Accepted.ruled own count entries wind desired c h visibility e m);
+      «each-approach» = approaches;
       «no-side» = no-side;
       «13-if» = thirteen-if;
       «some-side» = some-side;

@@ -14,6 +14,7 @@ use Rattle.motion.specs.declared.vessel.Vessel.{Vessel}
 use Rattle.arguments.specs.declared.Verdict.the-variants as Verdict
 use Rattle.arguments.specs.Check.{verdict}
 use Rattle.relative_motion.specs.declared.approach.Cpa.{Cpa}
+use Rattle.relative_motion.specs.declared.approach.Approach.{Approach}
 use Rattle.relative_motion.specs.declared.approach.Approach.the-variants as Approach
 use Rattle.relative_motion.specs.declared.approach.CpaAnswer.{CpaAnswer}
 use Rattle.relative_motion.specs.declared.approach.CpaAnswer.the-variants as CpaAnswer
@@ -123,6 +124,8 @@ module _ (own : Party) (contacts : List Entry) (visibility : Visibility) (wind :
   pub record OnAccepted (answer : RuledAnswer) : Type 0 where
     -- every contact has a ruling
     pub «each-ruled» : (e : Entry) → List·Memᴰ e contacts → (r : Ruling) × (rulingAnswer (situationOf own visibility wind e) standard ≡ RulingAnswer.Of r)
+    -- and on every trial's course `closest_point_of_approach` answers for it, so that 'no contact closes' is never said of a refusal
+    pub «each-approach» : (side : Side) (m : Float) → Trial m → (e : Entry) → List·Memᴰ e contacts → (a : Approach) × (approachTo (on side m) e ≡ CpaAnswer.Of a)
     -- 'the ruled search refuses with 13 exactly if the rulings share no side,
     pub «no-side» : answer ≡ Refused Why.NoSharedSide → (side : Side) → Shared side → ⊥
     pub «13-if» : ((side : Side) → Shared side → ⊥) → answer ≡ Refused Why.NoSharedSide
