@@ -1,0 +1,34 @@
+-- The loop that reads the contacts: the first i rows are the first i contacts.
+use mathlib.Core.Path.{_≡_, refl, sym, ap, _∙_, subst}
+use mathlib.Core.List.{List, [], _∷_, _++_}
+use Prim.Native.Nat.{ℕ, suc, _+_, _*_, _%_, _≤_, _<_, min}
+use native.Mathlib.Numerals.{add-one}
+use native.Mathlib.Omega.{arith}
+use lib.ListN.{length, set, take, length-set}
+use lib.Seq.{take-suc-set}
+use Rattle.clearing.specs.Clearing.{maxContacts}
+use Rattle.sheet_record.specs.declared.Row.{Row}
+use Rattle.sheet_record.specs.Record.{rowFrom, held, firstRows, contactCount, rowsOf}
+
+pub record Filled (ws : List ℕ) (list : List Row) (i : ℕ) : Type 0 where
+  pub full : length list ≡ maxContacts
+  pub same : take i list ≡ firstRows ws i
+
+module _ (ws : List ℕ) where
+  pub none : (list : List Row) → length list ≡ maxContacts → Filled ws list 0
+  unfolding firstRows
+  none list full = record { full = full; same = refl }
+
+  within : (i : ℕ) → i < maxContacts → held (9 + 6 * i) ≡ 9 + 6 * i
+  within i h = omega arith
+
+  pub more : (list : List Row) (i : ℕ) (row : Row) → i < maxContacts → row ≡ rowFrom ws (held (9 + 6 * i)) → Filled ws list i → Filled ws (set list i row) (i + 1)
+  unfolding firstRows
+  more list i row h e f = record {
+    full = length-set list i row ∙ f .full;
+    same = ap (λ j. take j (set list i row)) (add-one i) ∙ take-suc-set list i row (subst (λ n. i < n) (sym (f .full)) h) ∙ ap (λ l. l ++ (row ∷ [])) (f .same) ∙ ap (λ x. firstRows ws i ++ (x ∷ [])) (e ∙ ap (rowFrom ws) (within i h)) ∙ sym (ap (firstRows ws) (add-one i));
+  }
+
+  pub filled : (list : List Row) (i n count : ℕ) → i ≡ n → n ≡ min count maxContacts → count ≡ contactCount ws → Filled ws list i → take n list ≡ rowsOf ws
+  unfolding rowsOf
+  filled list i n count e is ec f = ap (λ k. take k list) (sym e) ∙ f .same ∙ ap (firstRows ws) (e ∙ is ∙ ap (λ k. min k maxContacts) ec)

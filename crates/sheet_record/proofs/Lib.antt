@@ -1,0 +1,3 @@
+-- What the reading of a record owes.
+pub mod Counting
+pub mod Filling

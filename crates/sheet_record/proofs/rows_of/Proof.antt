@@ -1,0 +1,75 @@
+use Prim.Native.Nat.{ℕ, _+_, _-_, _≤_, _<_, min}
+use mathlib.Core.Path.{_≡_, refl}
+use native.Mathlib.Omega.{arith}
+use Rattle.sheet_words.specs.Word.{words}
+use Rattle.sheet_record.specs.Record.{rows}
+use Rattle.sheet_record.proofs.Filling.{Filled, none, more, filled}
+use borrow.Author.Needs.{needs}
+use Rattle.sheet_record.proofs.rows_of.Statement.{statement}
+use Rattle.sheet_record.proofs.rows_of.Tie as tie
+
+abbrev Inv-loop : tie.InvT-loop
+Inv-loop bytes n rows₀ i₀ rows i = (i ≤ n) × Filled (words bytes) (rows .list) i
+
+abbrev μ-loop : tie.MeasureT-loop
+μ-loop bytes n rows₀ i₀ rows i = n - i
+
+contact-count-requires : tie.Need-contact-count-requires Inv-loop μ-loop
+contact-count-requires c κs = tt
+
+held-requires : tie.Need-held-requires Inv-loop μ-loop
+held-requires c κs = tt
+
+row-from-requires : tie.Need-row-from-requires Inv-loop μ-loop
+row-from-requires c κs = tt
+
+loop-holds : tie.Need-loop-holds Inv-loop μ-loop
+loop-holds c = (omega arith, none _ _ refl)
+
+mul-row-from : tie.Need-mul-row-from Inv-loop μ-loop
+mul-row-from c = omega (arith, c .loop-test .taken, c .before .before .before .held .ensures)
+
+add-row-from : tie.Need-add-row-from Inv-loop μ-loop
+add-row-from c = omega (arith, c .loop-test .taken, c .before .before .before .held .ensures)
+
+row-from-requires-2 : tie.Need-row-from-requires-2 Inv-loop μ-loop
+row-from-requires-2 c κs = tt
+
+mul-row : tie.Need-mul-row Inv-loop μ-loop
+mul-row c = omega (arith, c .before .loop-test .taken, c .before .before .before .before .held .ensures)
+
+element-set-from-row : tie.Need-element-set-from-row Inv-loop μ-loop
+element-set-from-row c = omega (arith, c .before .loop-test .taken, c .before .before .before .before .held .ensures, c .before .before .loop .inv .1 .full)
+
+add-i : tie.Need-add-i Inv-loop μ-loop
+add-i c = search needs
+
+loop-less : tie.Need-loop-less Inv-loop μ-loop
+loop-less c = search needs
+
+loop-again : tie.Need-loop-again Inv-loop μ-loop
+loop-again c = (omega arith, more _ _ _ _ (omega (arith, c .before .loop-test .taken, c .before .before .before .before .held .ensures)) (c .row-from2 .ensures) (c .before .before .loop .inv .1))
+
+returns : tie.Need-returns Inv-loop μ-loop
+unfolding rows
+returns c = filled _ _ _ _ _ (omega (arith, c .loop-test .left, c .before .loop .inv .0)) (c .before .before .before .held .ensures) (c .before .before .before .before .contact-count .ensures) (c .before .loop .inv .1)
+
+pub rows-of-spec : {M : Type 1} → statement M
+rows-of-spec =
+    tie.close
+    (tie.spec
+    Inv-loop
+    μ-loop
+    contact-count-requires
+    held-requires
+    row-from-requires
+    loop-holds
+    mul-row-from
+    add-row-from
+    row-from-requires-2
+    mul-row
+    element-set-from-row
+    add-i
+    loop-less
+    loop-again
+    returns)

@@ -1,0 +1,2 @@
+-- A sheet as a record.
+pub mod Record

@@ -1,0 +1,2 @@
+-- Laws on the words of a sheet.
+pub mod Words

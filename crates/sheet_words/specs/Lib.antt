@@ -1,0 +1,2 @@
+-- The words of a sheet.
+pub mod Word
