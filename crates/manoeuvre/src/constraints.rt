@@ -60,7 +60,7 @@ impl PermittedSides {
     }
 }
 
-fn check_alterations(least: Angle, most: Angle, rest: Verdict) -> Verdict
+pub fn check_alterations(least: Angle, most: Angle, rest: Verdict) -> Verdict
     ensures { λ r. ⌜ r ≡ Check.verdict (Spec.alterationChecks least most) rest ⌝ }
 {
     arguments::unless(

@@ -1,0 +1,2 @@
+-- What the checks of a sheet owe.
+pub mod Steps

@@ -1,0 +1,2 @@
+-- The checks of a sheet.
+pub mod Sheet

@@ -1,0 +1,3 @@
+-- What the values of a sheet owe.
+pub mod Exactly
+pub mod Filling
