@@ -1,0 +1,3 @@
+-- Text and the numbers in it.
+pub mod Text
+pub mod Decimal
