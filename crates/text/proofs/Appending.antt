@@ -19,8 +19,8 @@ unfolding appended
 appended-twice t a b = cut room (t ++ a) b ∙ ap (take room) (append-assoc t a b)
 
 -- one piece, then the rest
-pub then : (t u r a b : List ℕ) → u ≡ appended t a → r ≡ appended u b → r ≡ appended t (a ++ b)
-then t u r a b e q = rw (q, e, appended-twice t a b)
+pub then : (t a b : List ℕ) {u r : List ℕ} → u ≡ appended t a → r ≡ appended u b → r ≡ appended t (a ++ b)
+then t a b {u} {r} e q = rw (q, e, appended-twice t a b)
 
 -- what fits is there whole, and no text is longer than the room
 pub whole : (t s : List ℕ) → length t + length s ≤ room → appended t s ≡ t ++ s

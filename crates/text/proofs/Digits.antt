@@ -1,10 +1,9 @@
 -- The fewest digits that hold a number, as the toolchain's `io::decimal` gives them, are its decimal digits as defined here.
-use mathlib.Core.Path.{_≡_, refl, sym, ap, _∙_}
+use mathlib.Core.Path.{_≡_, refl, ap}
 use mathlib.Core.Bool.{Bool, true, false, cond}
 use mathlib.Core.List.{List, [], _∷_, _++_}
 use Prim.Native.Nat.{ℕ, zero, suc, _+_, _*_, _-_, _/_, _%_, _^_, _≤_, _<_}
-use native.Mathlib.Nat.{mod-lt, pow-succ', one-le-pow, pow-le-pow-right}
-use lib.Pow.{pow-add}
+use native.Mathlib.Nat.{pow-succ', one-le-pow, pow-le-pow-right}
 use native.Mathlib.Omega.{arith}
 use borrow.Author.Tests.{lt-ltb, le-ltb, ltb-true, ltb-false}
 use lib.Dec.{ltb}
@@ -42,21 +41,20 @@ decimal-is k n h f = fewest-digits 20 k n f (go (ltb 20 k) (ltb-true 20 k) (ltb-
     go true a b = absurd (never (a refl))
     go false a b = b refl
 
--- how long numbers are: below 10 ^ k at most k digits, or one
-digits-few : (f k n : ℕ) → n < 10 ^ suc k → length (digitsUpTo f n) ≤ suc k
+-- how long they are at most
+digits-short : (k n : ℕ) → length (digitsUpTo k n) ≤ k
 unfolding digitsUpTo
-digits-few zero k n h = omega arith
-digits-few (suc f) zero n h = rw (lt-ltb n 10 (omega (arith, h))) (omega arith)
-digits-few (suc f) (suc k) n h = simp length-append (go (ltb n 10) (digits-few f k (n / 10) (omega (arith, pow-succ' 10 (suc k)))))
+digits-short zero n = omega arith
+digits-short (suc k) n = simp length-append (go (ltb n 10) (digits-short k (n / 10)))
   where
-    go : (b : Bool) → length (digitsUpTo f (n / 10)) ≤ suc k → length (cond b [] (digitsUpTo f (n / 10))) + 1 ≤ suc (suc k)
+    go : (b : Bool) → length (digitsUpTo k (n / 10)) ≤ k → length (cond b [] (digitsUpTo k (n / 10))) + 1 ≤ suc k
     go true l = omega arith
     go false l = omega arith
 
-pub decimal-few : (k n : ℕ) → n < 10 ^ suc k → length (decimalOf n) ≤ suc k
+pub decimal-short : (n : ℕ) → length (decimalOf n) ≤ 20
 unfolding decimalOf
-decimal-few k n h = digits-few 20 k n h
+decimal-short n = digits-short 20 n
 
-pub decimals-few : (k n : ℕ) → n < 10 ^ (suc k + 3) → length (threeDecimals n) ≤ k + 5
+pub decimals-short : (n : ℕ) → length (threeDecimals n) ≤ 24
 unfolding threeDecimals
-decimals-few k n h = simp length-append (omega (arith, decimal-few k (n / 1000) (omega (arith, h, pow-add 10 (suc k) 3))))
+decimals-short n = simp length-append (omega (arith, decimal-short (n / 1000)))

@@ -18,7 +18,11 @@ put-requires : tie.Need-put-requires
 put-requires c κs = search needs
 
 returns : tie.Need-returns
-returns c = let d = c .before .before in rw (c .put .ensures, d .decimal .ensures .1 .1, decimal-is (d .decimal .result) (d .before .before .args .n) (omega arith) (d .decimal .ensures .1 .0)) refl
+returns c =
+    let digits = c .before .before in
+    let d = digits .decimal in
+    rw (c .put .ensures, d .ensures .1 .1, decimal-is (d .result) (digits .before .before .args .n) (omega arith) (d .ensures .1 .0))
+    refl
 
 pub number-spec : {M : Type 1} → statement M
 number-spec =

@@ -25,7 +25,12 @@ put-requires c κs = search needs
 
 returns : tie.Need-returns
 unfolding threeDecimals
-returns c = let d = c .before .before in let n = d .before .before .before in rw (← d .last-digit3 .ensures, ← d .before .last-digit2 .ensures, ← d .before .before .last-digit .ensures) (then _ _ _ _ _ (n .number .ensures) (c .put .ensures))
+returns c =
+    let last = c .before .before in
+    let tens = last .before in
+    let hundreds = tens .before in
+    rw (← last .last-digit3 .ensures, ← tens .last-digit2 .ensures, ← hundreds .last-digit .ensures)
+    (then _ _ _ (hundreds .before .number .ensures) (c .put .ensures))
 
 pub thousandths-spec : {M : Type 1} → statement M
 thousandths-spec =
