@@ -31,6 +31,10 @@ pub within-room : (t s : List ℕ) → length (appended t s) ≤ room
 unfolding appended
 within-room t s = omega (arith, length-take room (t ++ s))
 
+pub nothing-appended : (t : List ℕ) → length t ≤ room → appended t [] ≡ t
+unfolding appended
+nothing-appended t h = rw append-nil (take-all room t h)
+
 -- `put`: n bytes are there, and s from i on is still to come
 pub record Copying (t s bytes : List ℕ) (n i : ℕ) : Type 0 where
   pub full : length bytes ≡ room
