@@ -1,0 +1,2 @@
+-- A quantity in thousandths.
+pub mod Thousandths

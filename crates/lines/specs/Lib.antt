@@ -1,0 +1,2 @@
+-- The lines that the encounter sheet's program prints.
+pub mod Lines

@@ -1,0 +1,3 @@
+-- What is proved of the lines beyond the functions' contracts.
+pub mod Short
+pub mod Sample

@@ -1,0 +1,4 @@
+-- Text and the numbers in it.
+pub mod Text
+pub mod Decimal
+pub mod Line
