@@ -1,10 +1,10 @@
 -- The loop that reads the contacts: the first i rows are the first i contacts.
 use mathlib.Core.Path.{_≡_, refl, sym, ap, _∙_, subst}
 use mathlib.Core.List.{List, [], _∷_, _++_}
-use Prim.Native.Nat.{ℕ, suc, _+_, _*_, _%_, _≤_, _<_, min}
+use Prim.Native.Nat.{ℕ, zero, suc, _+_, _*_, _%_, _≤_, _<_, min}
 use native.Mathlib.Numerals.{add-one}
 use native.Mathlib.Omega.{arith}
-use lib.ListN.{length, set, take, length-set}
+use lib.ListN.{length, set, take, length-set, length-append}
 use lib.Seq.{take-suc-set}
 use Rattle.clearing.specs.Clearing.{maxContacts}
 use Rattle.sheet_record.specs.declared.Row.{Row}
@@ -32,3 +32,12 @@ module _ (ws : List ℕ) where
   pub filled : (list : List Row) (i n count : ℕ) → i ≡ n → n ≡ min count maxContacts → count ≡ contactCount ws → Filled ws list i → take n list ≡ rowsOf ws
   unfolding rowsOf
   filled list i n count e is ec f = ap (λ k. take k list) (sym e) ∙ f .same ∙ ap (firstRows ws) (e ∙ is ∙ ap (λ k. min k maxContacts) ec)
+
+  as-many : (n : ℕ) → length (firstRows ws n) ≡ n
+  unfolding firstRows
+  as-many zero = refl
+  as-many (suc n) = omega (arith, length-append (firstRows ws n) (rowFrom ws (9 + 6 * n) ∷ []), as-many n)
+
+  pub counted : (n count : ℕ) → n ≡ min count maxContacts → count ≡ contactCount ws → n ≡ length (rowsOf ws)
+  unfolding rowsOf
+  counted n count is ec = is ∙ ap (λ k. min k maxContacts) ec ∙ sym (as-many (min (contactCount ws) maxContacts))

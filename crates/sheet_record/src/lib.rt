@@ -1,6 +1,6 @@
 // An encounter sheet as a record of whole numbers, as they stand in its words: the header and up to MAX_CONTACTS contacts.
 ghost use mathlib.Core.Path.{_≡_};
-ghost use lib.ListN.{take};
+ghost use lib.ListN.{length, take};
 ghost use Rattle.sheet_words.specs.Word as Words;
 ghost use Rattle.sheet_record.specs.Record as Spec;
 use clearing::MAX_CONTACTS;
@@ -92,7 +92,8 @@ fn row_from(bytes: &[u8], i: usize) -> Row
 
 // The contacts of a sheet, as many as there is room for.
 pub fn rows_of(bytes: &[u8]) -> Rows
-    ensures { λ r. ⌜ Spec.rows r ≡ Spec.rowsOf (Words.words (now (bytes .entry))) ⌝ }
+    ensures counted { λ r. ⌜ r .count ≡ length (Spec.rowsOf (Words.words (now (bytes .entry)))) ⌝ }
+    ensures listed { λ r. ⌜ Spec.rows r ≡ Spec.rowsOf (Words.words (now (bytes .entry))) ⌝ }
 {
     let n = clearing::held(contact_count(bytes));
     let mut rows = Rows {

@@ -2,6 +2,7 @@
 // every piece; whoever shows that a text fits has it whole.
 ghost use mathlib.Core.Path.{_≡_};
 ghost use mathlib.Core.List.{[], _∷_};
+ghost use lib.ListN.{length};
 ghost use Rattle.text.specs.Text.{shown, appended};
 ghost use Rattle.text.specs.Decimal.{lastDigit, decimalOf, threeDecimals};
 
@@ -30,6 +31,16 @@ impl Text {
             bytes: [0; ROOM],
             len: 0,
         }
+    }
+
+    // How many bytes it has.
+    pub fn size(self) -> usize
+        ensures { λ r. ⌜ r ≡ length (shown self) ⌝ }
+    {
+        if self.len < ROOM {
+            return self.len;
+        }
+        ROOM
     }
 
     // The bytes of s at the end.

@@ -28,7 +28,7 @@ enum-known-readable : tie.Need-enum-known-readable
 enum-known-readable c = search needs
 
 returns : tie.Need-returns
-returns c = read _ _ (c .before .before .before .before .before .before .before .check-layout .ensures) (c .before .before .before .before .before .enum-told .given .1) _ _ _ _ _ (c .before .before .before .before .header-of .ensures) (c .before .before .before .rows-of .ensures) (c .before .before .traffic-of .ensures .1) (c .before .check-values .ensures) (c .check-codes .ensures)
+returns c = read _ _ (c .before .before .before .before .before .before .before .check-layout .ensures) (c .before .before .before .before .before .enum-told .given .1) _ _ _ _ _ (c .before .before .before .before .header-of .ensures) (c .before .before .before .rows-of .ensures .1) (c .before .before .traffic-of .ensures .1) (c .before .check-values .ensures) (c .check-codes .ensures)
 
 returns-2 : tie.Need-returns-2
 returns-2 c = refused _ _ (c .before .before .before .check-layout .ensures) _ (c .before .readable .given .1)

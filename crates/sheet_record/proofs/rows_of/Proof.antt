@@ -3,7 +3,7 @@ use mathlib.Core.Path.{_≡_, refl}
 use native.Mathlib.Omega.{arith}
 use Rattle.sheet_words.specs.Word.{words}
 use Rattle.sheet_record.specs.Record.{rows}
-use Rattle.sheet_record.proofs.Filling.{Filled, none, more, filled}
+use Rattle.sheet_record.proofs.Filling.{Filled, none, more, filled, counted}
 use borrow.Author.Needs.{needs}
 use Rattle.sheet_record.proofs.rows_of.Statement.{statement}
 use Rattle.sheet_record.proofs.rows_of.Tie as tie
@@ -52,7 +52,7 @@ loop-again c = (omega arith, more _ _ _ _ (omega (arith, c .before .loop-test .t
 
 returns : tie.Need-returns Inv-loop μ-loop
 unfolding rows
-returns c = filled _ _ _ _ _ (omega (arith, c .loop-test .left, c .before .loop .inv .0)) (c .before .before .before .held .ensures) (c .before .before .before .before .contact-count .ensures) (c .before .loop .inv .1)
+returns c = (counted _ _ _ (c .before .before .before .held .ensures) (c .before .before .before .before .contact-count .ensures), filled _ _ _ _ _ (omega (arith, c .loop-test .left, c .before .loop .inv .0)) (c .before .before .before .held .ensures) (c .before .before .before .before .contact-count .ensures) (c .before .loop .inv .1))
 
 pub rows-of-spec : {M : Type 1} → statement M
 rows-of-spec =

@@ -1,0 +1,2 @@
+-- The lines on a sheet's contacts.
+pub mod Contacts

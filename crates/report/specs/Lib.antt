@@ -1,0 +1,2 @@
+-- What the encounter program prints for a sheet.
+pub mod Report
