@@ -1,3 +1,2 @@
 -- What is proved of the lines beyond the functions' contracts.
 pub mod Short
-pub mod Sample

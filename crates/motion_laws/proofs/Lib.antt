@@ -1,5 +1,4 @@
 -- Laws on relative motion.
-pub mod Corners
 pub mod Finite
 pub mod Plots
 pub mod Sizes

@@ -1,1 +1,1 @@
-// Laws on relative motion: its answers are finite, its functions are called inside their domains, its corners. There is no code.
+// Laws on relative motion: its answers are finite, its functions are called inside their domains. There is no code.

@@ -1,2 +1,1 @@
-// Laws on rulings: one kind of encounter, the sides that a ruling permits, the corners and the departures from COLREGs. There is no
-// code.
+// Laws on rulings: one kind of encounter, the sides that a ruling permits, the departures from COLREGs. There is no code.

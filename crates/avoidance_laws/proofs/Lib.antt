@@ -1,2 +1,0 @@
--- Laws on assessment and avoidance.
-pub mod Corners

@@ -1,1 +1,0 @@
-// Laws on assessment and avoidance: their corners. There is no code.

@@ -1,2 +1,0 @@
--- Corners of the searches.
-pub mod Corners
