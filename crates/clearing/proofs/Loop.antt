@@ -46,6 +46,10 @@ take-held n l = go (ltb n (length l)) refl
     go true e = ap (λ k. take k l) (less (ltb→lt n (length l) (subst T (sym e) tt)))
     go false e = let k = nltb→le n (length l) (subst (λ t. T (not t)) (sym e) tt) in ap (λ k. take k l) (more k) ∙ take-all (length l) l all ∙ sym (take-all n l k)
 
+-- of a list that fills the room, a count cut at the room takes as much
+pub take-room : {A : Type 0} (n count room : ℕ) (l : List A) → n ≡ min count room → length l ≡ room → take n l ≡ take count l
+take-room n count room l is full = ap (λ k. take k l) (is ∙ ap (min count) (sym full)) ∙ take-held count l
+
 -- a count cut at the room fits the room
 pub fits : (n count room len : ℕ) → n ≡ min count room → len ≡ room → n ≤ len
 fits n count room len is full = omega arith

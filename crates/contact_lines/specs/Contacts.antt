@@ -1,7 +1,7 @@
 -- The lines on a sheet's contacts (01, 'Encounter sheet and its program': a CONTACT line for each contact, of what `closest_point_of_approach`, the assessment and `rule_of_the_road` say of it).
 --
 -- A sheet's values are checked before they are asked, so that on an accepted sheet none of them refuses (report_laws).
-use mathlib.Core.List.{List, [], _∷_, _++_}
+use mathlib.Core.List.{List, flatMap}
 use Prim.Native.Nat.{ℕ}
 use Rattle.policy.specs.declared.CpaPolicy.{CpaPolicy}
 use Rattle.relative_motion.specs.declared.approach.CpaAnswer.{CpaAnswer}
@@ -33,5 +33,4 @@ lineOn own visibility policy row =
 
 -- in the sheet's order
 unfoldable pub contactLines : Party → Visibility → CpaPolicy → List Row → List ℕ
-contactLines own visibility policy [] = []
-contactLines own visibility policy (r ∷ rs) = lineOn own visibility policy r ++ contactLines own visibility policy rs
+contactLines own visibility policy rs = flatMap (lineOn own visibility policy) rs

@@ -1,6 +1,6 @@
 -- Nothing of a report is cut: the lines on the contacts that there is room for, and the answer, fit in a text.
 use mathlib.Core.Path.{_≡_, refl, sym, ap, _∙_}
-use mathlib.Core.List.{List, [], _∷_, _++_}
+use mathlib.Core.List.{List, [], _∷_, _++_, flatMap}
 use Prim.Native.Nat.{ℕ, _+_, _*_, _≤_}
 use native.Mathlib.Omega.{arith}
 use lib.Dec.{lit≤}
@@ -48,7 +48,7 @@ module _ (own : Party) (visibility : Visibility) (policy : CpaPolicy) where
       by-short (r .id) policy (cpaAnswer (own .motion) (e .contact) (e .target .motion)) (rulingAnswer (situationOf own visibility Unknown e) standard)
 
   contacts-short : (rs : List Row) → length (contactLines own visibility policy rs) ≤ 129 * length rs
-  unfolding contactLines
+  unfolding contactLines flatMap
   contacts-short [] = lit≤ tt
   contacts-short (r ∷ rs) = omega (arith, length-append (lineOn own visibility policy r) (contactLines own visibility policy rs), line-short r, contacts-short rs)
 

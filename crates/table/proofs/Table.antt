@@ -1,7 +1,7 @@
 -- Document 01's marked corners, the examples of its table of refusals, and the reading of its sample sheet, in one table: what the definitions compute, and what it must be. The quoted sentences are document 01's.
 use mathlib.Core.Path.{_≡_, refl}
 use mathlib.Core.Bool.{false, true}
-use mathlib.Core.List.{List, [], _++_, _∷_}
+use mathlib.Core.List.{List, [], _++_, _∷_, flatMap}
 use Prim.Native.Nat.{ℕ}
 use Prim.Native.String.{String}
 use lib.ListN.{length}
@@ -217,5 +217,5 @@ table =
     ∷ []
 
 pub holds : every table ≡ true
-unfolding abaft abs add along alterLine altered angleSteps answerOn answered approach approachFrom arcsine.arcsineSteps arcsine.arcsineUnits arcsine.atMost arcsine.fitsIn arcsine.rest arcsine.restStep arcsine.scale arcsine.scaleFrom arcsine.upperSteps arctangentSteps asin.asin asin.inDomain aspectOf assessAnswer assessment atSpeed atan2 avoidAnswer avoidChecks avoidanceOf avoided bothFinite bowAnswer bytes categoryChecks categoryOf choice choiceFor choiceOf circular.fromUnits circular.inDomain circular.scaled clamped clearing clears clock closest closingRate codeChecks constraintChecks constraintsAnswer constraintsOn contactCount contactLine contactLines contactsChecks cos cosineDivisors cosineStep cosineUnits courseAnswer courseFor cpaAnswer crossing decided decimalOf degreesPerRadian determinant difference digitsUpTo directionOf distance div driftOf driftPerHour encounterChecks encounterOf entryChecks entryOf eq even factsOf finite first firstRows floorOf fold folds.turned forwardOfBeam fromHours fromSeconds grazing greatest greatestTo halfFold headerOf heading horner hoursOf hypot hypots.inDomain idAt inBoth inOrder inRange isAccepted isBefore isClosing isDirection isDistance isEffectivelyZero isHeadOn isSpeed isWidth join larger last layout le lineOn linesOn lt manoeuvres.manoeuvre manoeuvres.sideOf manoeuvres.turned mul nanosIn neg negative notAbove notNegative octant ofBits ofInt offered offset orFirst ownComesUp ownOf ownOvertakes party partyChecks partyOf passage permitted placed plotAnswer plotChecks plotVerdict plots.targetOf policyAnswer policyOn portBy17 portBy19 quarters raised rangeRate readable refusedLine relativeMotion relativeOf relativeSpeed relativeVelocity rem removed report resolved rest riskAt round rowFrom rowsOf rule18 ruled ruledAnswer ruledChecks rulingAnswer rulingFor rulingOf scaledBy seedBy seededChoice seededSide sharedSides sheetVerdict sideChoice sideOf sidesOf sin sineDivisors sineStep sineUnits situation situationChecks size solution solved speedOf spelled sqrt square starboardBy19 sub table tally targetComesUp targetOf targetOvertakes thousandthsOf threeDecimals timeOf timeToGo toBits toDegrees toRadians toUnsigned toUsize trial trialClears trials trialsFrom turnedMinus turnedUnits unit unitsOf upTo valueChecks values.scaled velocity verdict vesselOf visibilityOf wholeFold withHeading withRateOfTurn withWindFrom words
+unfolding abaft abs add along alterLine altered angleSteps answerOn answered approach approachFrom arcsine.arcsineSteps arcsine.arcsineUnits arcsine.atMost arcsine.fitsIn arcsine.rest arcsine.restStep arcsine.scale arcsine.scaleFrom arcsine.upperSteps arctangentSteps asin.asin asin.inDomain aspectOf assessAnswer assessment atSpeed atan2 avoidAnswer avoidChecks avoidanceOf avoided bothFinite bowAnswer bytes categoryChecks categoryOf choice choiceFor choiceOf circular.fromUnits circular.inDomain circular.scaled clamped clearing clears clock closest closingRate codeChecks constraintChecks constraintsAnswer constraintsOn contactCount contactLine contactLines contactsChecks cos cosineDivisors cosineStep cosineUnits courseAnswer courseFor cpaAnswer crossing decided decimalOf degreesPerRadian determinant difference digitsUpTo directionOf distance div driftOf driftPerHour encounterChecks encounterOf entryChecks entryOf eq even factsOf finite first firstRows flatMap floorOf fold folds.turned forwardOfBeam fromHours fromSeconds grazing greatest greatestTo halfFold headerOf heading horner hoursOf hypot hypots.inDomain idAt inBoth inOrder inRange isAccepted isBefore isClosing isDirection isDistance isEffectivelyZero isHeadOn isSpeed isWidth join larger last layout le lineOn linesOn lt manoeuvres.manoeuvre manoeuvres.sideOf manoeuvres.turned mul nanosIn neg negative notAbove notNegative octant ofBits ofInt offered offset orFirst ownComesUp ownOf ownOvertakes party partyChecks partyOf passage permitted placed plotAnswer plotChecks plotVerdict plots.targetOf policyAnswer policyOn portBy17 portBy19 quarters raised rangeRate readable refusedLine relativeMotion relativeOf relativeSpeed relativeVelocity rem removed report resolved rest riskAt round rowFrom rowsOf rule18 ruled ruledAnswer ruledChecks rulingAnswer rulingFor rulingOf scaledBy seedBy seededChoice seededSide sharedSides sheetVerdict sideChoice sideOf sidesOf sin sineDivisors sineStep sineUnits situation situationChecks size solution solved speedOf spelled sqrt square starboardBy19 sub table tally targetComesUp targetOf targetOvertakes thousandthsOf threeDecimals timeOf timeToGo toBits toDegrees toRadians toUnsigned toUsize trial trialClears trials trialsFrom turnedMinus turnedUnits unit unitsOf upTo valueChecks values.scaled velocity verdict vesselOf visibilityOf wholeFold withHeading withRateOfTurn withWindFrom words
 holds = refl

@@ -10,12 +10,15 @@ use Rattle.clearing.specs.Clearing.{maxContacts}
 use Rattle.clearing.proofs.Loop.{fits}
 use Rattle.text.specs.Text.{room, shown}
 use Rattle.sheet_record.specs.Record.{rows}
-use Rattle.contact_lines.proofs.Lines.{with-line, all-joined}
+use Rattle.text.proofs.Pieces.{with-piece}
+use Rattle.text.proofs.Pieces as Pieces
+use Rattle.contact_lines.specs.Contacts.{lineOn}
+use Rattle.contact_lines.proofs.Lines.{all-joined}
 use Rattle.contact_lines.proofs.put_rows.Statement.{statement}
 use Rattle.contact_lines.proofs.put_rows.Tie as tie
 
 abbrev Inv-loop : tie.InvT-loop
-Inv-loop own visibility policy rows count t₀ i₀ t i = (i ≤ count) × (fold (with-line own visibility policy) (shown t) (slice i count (rows .list)) ≡ fold (with-line own visibility policy) (shown t₀) (slice 0 count (rows .list)))
+Inv-loop own visibility policy rows count t₀ i₀ t i = (i ≤ count) × (fold (with-piece (lineOn own visibility policy)) (shown t) (slice i count (rows .list)) ≡ fold (with-piece (lineOn own visibility policy)) (shown t₀) (slice 0 count (rows .list)))
 
 abbrev μ-loop : tie.MeasureT-loop
 μ-loop own visibility policy rows count t₀ i₀ t i = count - i
@@ -28,7 +31,7 @@ full : (c : tie.Start Inv-loop μ-loop) → length (c .args .t0 .bytes) ≡ room
 full c = simp length-map at (c .good .0 .1 .1 .0 .1 .0 .1)
 
 within : (c : tie.Start Inv-loop μ-loop) → length (shown (c .args .t0)) ≤ room
-within c = omega (arith, length-take (c .args .t0 .len) (c .args .t0 .bytes), full c)
+within c = Pieces.fits (c .args .t0 .len) (c .args .t0 .bytes) (full c)
 
 held-requires : tie.Need-held-requires Inv-loop μ-loop
 held-requires c κs = tt

@@ -1,0 +1,2 @@
+-- A sheet's record as its bytes.
+pub mod Encode

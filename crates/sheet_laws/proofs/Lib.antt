@@ -1,0 +1,4 @@
+-- Laws on the round trip of a sheet.
+pub mod Groups
+pub mod Back
+pub mod Forth

@@ -1,0 +1,2 @@
+-- The round trip of a sheet.
+pub mod RoundTrip
