@@ -27,16 +27,36 @@ fn put_word(t: Text, kind: u32, value: u32) -> Text
 fn put_header(t: Text, h: Header) -> Text
     ensures { λ r. ⌜ shown r ≡ appended (shown t) (Spec.bytesOf (Spec.headerWords h)) ⌝ }
 {
-    let t = put_word(put_word(put_word(t, 0, h.course), 1, h.speed), 2, h.category);
-    let t = put_word(put_word(put_word(t, 3, h.visibility), 4, h.desired), 5, h.least);
-    put_word(put_word(put_word(t, 6, h.most), 7, h.cpa_limit), 8, h.tcpa_limit)
+    let t = put_word(
+        put_word(put_word(t, 0, h.course), 1, h.speed),
+        2,
+        h.category,
+    );
+    let t = put_word(
+        put_word(put_word(t, 3, h.visibility), 4, h.desired),
+        5,
+        h.least,
+    );
+    put_word(
+        put_word(put_word(t, 6, h.most), 7, h.cpa_limit),
+        8,
+        h.tcpa_limit,
+    )
 }
 
 fn put_row(t: Text, row: Row) -> Text
     ensures { λ r. ⌜ shown r ≡ appended (shown t) (Spec.bytesOf (Spec.rowWords row)) ⌝ }
 {
-    let t = put_word(put_word(put_word(t, 9, row.id), 10, row.bearing), 11, row.range);
-    put_word(put_word(put_word(t, 12, row.course), 13, row.speed), 14, row.category)
+    let t = put_word(
+        put_word(put_word(t, 9, row.id), 10, row.bearing),
+        11,
+        row.range,
+    );
+    put_word(
+        put_word(put_word(t, 12, row.course), 13, row.speed),
+        14,
+        row.category,
+    )
 }
 
 fn put_rows(t0: Text, rows: Rows) -> Text

@@ -1,4 +1,4 @@
-use mathlib.Core.Path.{refl}
+use Rattle.contact_lines.proofs.Lines.{both-answered, ruling-refused, approach-refused}
 use borrow.Author.Needs.{needs}
 use Rattle.contact_lines.proofs.put_answers.Statement.{statement}
 use Rattle.contact_lines.proofs.put_answers.Tie as tie
@@ -33,15 +33,15 @@ refused-line-requires-2 c κs = tt
 returns : tie.Need-returns
 returns c =
     let told = c .before .before .before in
-    rw (c .contact-line .ensures, c .before .risk-of .ensures, c .before .before .nearest .ensures, told .before .before .before .before .approach .given .1, told .before .ruling .given .1) refl
+    both-answered _ _ _ _ _ _ _ _ _ _ (told .before .before .before .before .approach .given .1) (told .before .ruling .given .1) (c .before .before .nearest .ensures) (c .before .risk-of .ensures) (c .contact-line .ensures)
 
 returns-2 : tie.Need-returns-2
 returns-2 c =
     let told = c .before in
-    rw (c .refused-line .ensures, told .before .before .before .before .approach .given .1, told .before .ruling2 .given .1) refl
+    ruling-refused _ _ _ _ _ _ _ _ (told .before .before .before .before .approach .given .1) (told .before .ruling2 .given .1) (c .refused-line .ensures)
 
 returns-3 : tie.Need-returns-3
-returns-3 c = rw (c .refused-line2 .ensures, c .before .before .approach2 .given .1) refl
+returns-3 c = approach-refused _ _ _ _ _ _ _ (c .before .before .approach2 .given .1) (c .refused-line2 .ensures)
 
 pub put-answers-spec : {M : Type 1} → statement M
 put-answers-spec =

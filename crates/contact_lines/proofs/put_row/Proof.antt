@@ -1,5 +1,4 @@
-use mathlib.Core.Path.{refl}
-use Rattle.contact_lines.specs.Contacts.{lineOn}
+use Rattle.contact_lines.proofs.Lines.{of-row}
 use Rattle.contact_lines.proofs.put_row.Statement.{statement}
 use Rattle.contact_lines.proofs.put_row.Tie as tie
 
@@ -16,11 +15,10 @@ put-answers-requires : tie.Need-put-answers-requires
 put-answers-requires c κs = tt
 
 returns : tie.Need-returns
-unfolding lineOn
 returns c =
     let ruled = c .before in
     let approached = ruled .before in
-    rw (c .put-answers .ensures, ruled .rule-of-the-road .ensures, approached .closest-point-of-approach .ensures, approached .before .before .before .before .before .entry-of .ensures) refl
+    of-row _ _ _ _ _ _ _ _ _ (approached .before .before .before .before .before .entry-of .ensures) (approached .closest-point-of-approach .ensures) (ruled .rule-of-the-road .ensures) (c .put-answers .ensures)
 
 pub put-row-spec : {M : Type 1} → statement M
 put-row-spec =
