@@ -2,7 +2,7 @@
 
 use std::collections::BTreeMap;
 use std::io::{stdin, stdout, ErrorKind, Read, Result, Write};
-use std::path::{Path, PathBuf};
+use std::path::Path;
 use std::process::{Command, Output, Stdio};
 use std::thread::sleep;
 use std::time::Duration;
@@ -132,14 +132,16 @@ fn hexadecimal(bytes: &[u8]) -> String {
     bytes.iter().map(|byte| format!("{byte:02x}")).collect()
 }
 
-/// The program: the one in ENCOUNTER, or the one below the repository's root.
-fn program() -> PathBuf {
-    std::env::var_os("ENCOUNTER").map_or_else(|| Path::new(env!("CARGO_MANIFEST_DIR")).join("../target/bin/encounter"), PathBuf::from)
+/// What starts the program: the words in ENCOUNTER, of which the last is the program, or the one below the repository's root.
+fn command() -> Vec<String> {
+    let built = concat!(env!("CARGO_MANIFEST_DIR"), "/../target/bin/encounter");
+    std::env::var("ENCOUNTER").map_or_else(|_| vec![built.to_string()], |words| words.split_whitespace().map(str::to_string).collect())
 }
 
 /// Runs the program on a sheet; the bytes from a place on, if one is given, come a moment later.
-fn run_program(program: &Path, sheet: &[u8], pause_at: Option<usize>) -> Result<Output> {
-    let mut child = Command::new(program).stdin(Stdio::piped()).stdout(Stdio::piped()).stderr(Stdio::null()).spawn()?;
+fn run_program(command: &[String], sheet: &[u8], pause_at: Option<usize>) -> Result<Output> {
+    let mut program = Command::new(&command[0]);
+    let mut child = program.args(&command[1..]).stdin(Stdio::piped()).stdout(Stdio::piped()).stderr(Stdio::null()).spawn()?;
     let mut stdin = child.stdin.take().expect("a pipe");
     let (first, second) = sheet.split_at(pause_at.unwrap_or(sheet.len()));
     let written = stdin.write_all(first).and_then(|()| {
@@ -261,9 +263,9 @@ pub fn outcomes(count: u64) {
 
 /// Compares the program on `count` sheets, and counts what occurs. Some sheets come in two pieces.
 pub fn compare(count: u64) -> bool {
-    let program = program();
-    if !program.is_file() {
-        println!("{NAME}: there is no program {}", program.display());
+    let command = command();
+    if !command.last().is_some_and(|program| Path::new(program).is_file()) {
+        println!("{NAME}: there is no program {}", command.join(" "));
         return false;
     }
     let (sheets, mut tally) = (Sheets::new(), Tally::default());
@@ -272,7 +274,7 @@ pub fn compare(count: u64) -> bool {
         let (text, tie) = answer(&sheet);
         tally.count(&sheet, &text, tie);
         let pause_at = (i % 37 == 0).then(|| i as usize % (sheet.len() + 1));
-        difference(run_program(&program, &sheet, pause_at), &sheet, &text)
+        difference(run_program(&command, &sheet, pause_at), &sheet, &text)
     });
     tally.print();
     good & compare_stated() & compare_decimals(1_000_000)
