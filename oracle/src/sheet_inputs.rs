@@ -228,20 +228,24 @@ fn coarse(random: &mut Random) -> Values {
 }
 
 /// Numbers that lie exactly between two thousandths, or about: contacts that keep their range or open, and others abeam, at odd sixteenths
-/// of a mile; courses and alterations at odd sixteenths of a degree.
+/// of a mile; contacts ahead or abeam that pass at three or four fifths of an odd multiple of 1/64; courses and alterations at odd
+/// sixteenths of a degree.
 fn sixteenths(random: &mut Random) -> Values {
-    let odd = |below: u64, random: &mut Random| (2 * random.below(below) as u32 + 1) * SIXTEENTH;
+    let odd = |below: u64, random: &mut Random| 2 * random.below(below) as u32 + 1;
+    let quarter = |random: &mut Random| value(90.0 * random.below(4) as f64);
     let mut values = ordinary(1, random);
-    let own_course = if random.below(2) == 0 { odd(2880, random) } else { value(90.0 * random.below(4) as f64) };
-    let (own_speed, least) = (value(1.0 + random.below(20) as f64), odd(400, random));
+    let own_course = if random.below(2) == 0 { odd(2880, random) * SIXTEENTH } else { quarter(random) };
+    let (own_speed, least) = (4 * value(1.0 + random.below(5) as f64), odd(400, random) * SIXTEENTH);
     values.base[..2].copy_from_slice(&[own_course, own_speed]);
     values.base[LEAST..=MOST].copy_from_slice(&[least, any(&[least, REVERSAL, REVERSAL], random)]);
     values.base[DESIRED] = any(&[0, 1, SIXTEENTH, 1 << 10], random);
     let contact = |random: &mut Random| {
-        let range = any(&[odd(8, random), odd(80, random), odd(80_000, random)], random);
-        let bearing = (own_course + value(90.0 * random.below(4) as f64)) % CIRCLE;
-        let motions = [(own_course, own_speed), (own_course, own_speed / 2), (bearing, own_speed), (bearing, FASTEST)];
-        let (course, speed) = any(&motions, random);
+        let bearing = (own_course + quarter(random)) % CIRCLE;
+        let part = any(&[SIXTEENTH, SIXTEENTH, SIXTEENTH / 4, 5 * SIXTEENTH], random);
+        let range = any(&[odd(8, random), odd(80, random), odd(16_000, random)], random) * part;
+        let across = (own_course + value(any(&[90.0, 270.0], random))) % CIRCLE;
+        let keeping = [(own_course, own_speed), (own_course, own_speed / 2), (bearing, own_speed), (bearing, FASTEST)];
+        let (course, speed) = any(&[any(&keeping, random), (across, own_speed / 4 * 3)], random);
         [id(random), bearing, range, course, speed, random.below(8) as u32]
     };
     values.contacts = (0..random.below(9)).map(|_| contact(random)).collect();
