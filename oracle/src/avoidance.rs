@@ -17,14 +17,14 @@ use crate::traffic_calls::{
 use crate::vectors::Module;
 
 /// The number of refused constraints, and of too many contacts.
-const CONSTRAINTS: u64 = 4;
-const COUNT: u64 = 14;
+pub const CONSTRAINTS: u64 = 4;
+pub const COUNT: u64 = 14;
 
 /// The most contacts that are accepted.
-const MAX_CONTACTS: usize = 32;
+pub const MAX_CONTACTS: usize = 32;
 
 /// The first of some arguments that is bad gives its number.
-fn first_bad(arguments: impl IntoIterator<Item = (Kind, f64)>) -> Option<u64> {
+pub fn first_bad(arguments: impl IntoIterator<Item = (Kind, f64)>) -> Option<u64> {
     arguments.into_iter().find(|(kind, x)| !is_accepted(*kind, &[x.to_bits()])).map(|(kind, _)| kind as u64)
 }
 
@@ -78,7 +78,7 @@ fn differing(parts: impl Iterator<Item = u32>, wanted: &[u64], got: impl Fn(u32)
 
 /// Accepted limits: usual ones, fractions, a single trial, and differences that are whole or next to it, so that the last trial is there
 /// or not, or cut.
-fn limits(random: &mut Random) -> (f64, f64) {
+pub fn limits(random: &mut Random) -> (f64, f64) {
     let least = match random.below(4) {
         0 => 0.0,
         1 => random.below(90) as f64,
@@ -375,11 +375,11 @@ impl Case for Avoid {
 // ---- lists
 
 /// Own course and speed, and the desired distance.
-type Own = (f64, f64, f64);
+pub type Own = (f64, f64, f64);
 
 /// The kinds of traffic, the walls more often than others.
 #[derive(Clone, Copy, PartialEq)]
-enum Style {
+pub enum Style {
     /// Any contacts.
     Any,
     /// Some miles off, at usual speeds.
@@ -399,12 +399,12 @@ use Style::{EvenWall, Mirrored, Near, Quarter, StraightOn, Wall};
 
 const STYLES: [Style; 12] = [Style::Any, Near, StraightOn, StraightOn, StraightOn, Wall, Wall, Wall, EvenWall, EvenWall, Mirrored, Quarter];
 
-fn style(i: u64) -> Style {
+pub fn style(i: u64) -> Style {
     STYLES[(i % STYLES.len() as u64) as usize]
 }
 
 /// Contacts: bearing, range, course and speed of each.
-fn traffic(style: Style, count: usize, own: Own, random: &mut Random) -> Vec<[f64; 4]> {
+pub fn traffic(style: Style, count: usize, own: Own, random: &mut Random) -> Vec<[f64; 4]> {
     match style {
         Style::Any => (0..count).map(|_| [Direction, Distance, Direction, Speed].map(|kind| drawn(accepted, kind, random))).collect(),
         Near => (0..count).map(|_| near(random.unit() * 360.0, random)).collect(),
@@ -459,7 +459,7 @@ fn mirrored(count: usize, (own_course, ..): Own, random: &mut Random) -> Vec<[f6
 }
 
 /// Own craft and a desired distance for traffic.
-fn own(random: &mut Random) -> Own {
+pub fn own(random: &mut Random) -> Own {
     let course = any(&[0.0, 0.0, 90.0, 180.1, random.unit() * 360.0, drawn(turning, Direction, random)], random);
     let usual = 2.0 + random.unit() * 23.0;
     let speed = any(&[10.0, usual, usual, usual, usual, 0.0, drawn(accepted, Speed, random)], random);
@@ -469,7 +469,7 @@ fn own(random: &mut Random) -> Own {
 }
 
 /// How many contacts: mostly few.
-fn how_many(random: &mut Random) -> usize {
+pub fn how_many(random: &mut Random) -> usize {
     let most = any(&[3, 4, 9, 9, 17, 17, 33], random);
     random.below(most) as usize
 }

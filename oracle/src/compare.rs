@@ -6,7 +6,10 @@ use crate::angle::{wrap180, wrap360};
 use crate::avoidance;
 use crate::big::{units, Big};
 use crate::inputs::{Random, LIMITS};
-use crate::{arcs, assessment, circular, math, method, motion, port, ruling};
+use crate::{arcs, assessment, circular, math, method, motion, port, ruling, sheet_compare};
+
+/// Sheets among the comparisons of all parts: each takes a run of the program.
+const MOST_SHEETS: u64 = 100_000;
 
 /// The generator of a comparison's inputs.
 pub fn generator(name: &str) -> Random {
@@ -213,20 +216,36 @@ fn arc_function(f: &ArcFunction, count: u64) -> bool {
     equal && enclosed
 }
 
-/// Compares every function that is ported so far, or those of one part.
-pub fn all(count: u64, part: Option<&str>) -> bool {
-    let parts: &[(&str, fn(u64) -> bool)] = &[
-        ("elementary", elementary),
-        ("motion", motion::compare),
-        ("ruling", ruling::compare),
-        ("assessment", assessment::compare),
-        ("avoidance", avoidance::compare),
-    ];
-    let chosen: Vec<_> = parts.iter().filter(|(name, _)| part.is_none_or(|part| part == *name)).collect();
-    if chosen.is_empty() {
+/// What is done for each part; among all parts, for no more than so many inputs.
+type Part<T> = (&'static str, fn(u64) -> T, u64);
+
+/// The parts that are asked for, with their counts.
+fn chosen<T: Copy>(parts: &[Part<T>], count: u64, part: Option<&str>) -> Vec<T> {
+    let named = parts.iter().filter(|(name, ..)| part.is_none_or(|part| part == *name));
+    let done: Vec<T> = named.map(|(_, run, most)| run(if part.is_none() { count.min(*most) } else { count })).collect();
+    if done.is_empty() {
         println!("there is no such part");
     }
-    chosen.iter().fold(!chosen.is_empty(), |good, (_, compare)| compare(count) && good)
+    done
+}
+
+/// Compares every function that is ported so far and the program, or those of one part.
+pub fn all(count: u64, part: Option<&str>) -> bool {
+    let parts: &[Part<bool>] = &[
+        ("elementary", elementary, u64::MAX),
+        ("motion", motion::compare, u64::MAX),
+        ("ruling", ruling::compare, u64::MAX),
+        ("assessment", assessment::compare, u64::MAX),
+        ("avoidance", avoidance::compare, u64::MAX),
+        ("sheets", sheet_compare::compare, MOST_SHEETS),
+    ];
+    let good = chosen(parts, count, part);
+    !good.is_empty() && good.into_iter().all(|good| good)
+}
+
+/// Counts what references answer on the inputs of the comparison.
+pub fn outcomes(count: u64, part: Option<&str>) {
+    chosen(&[("avoidance", avoidance::outcomes, u64::MAX), ("sheets", sheet_compare::outcomes, MOST_SHEETS)], count, part);
 }
 
 /// The elementary functions and what stands beside them.

@@ -1,4 +1,4 @@
-//! The records and answers that `elementary_main` and `module_main` replay in the gate.
+//! The records and answers that `elementary_main` and `module_main` replay in the gate, and the sheets and lines of `sheet_main`.
 
 use std::fs;
 use std::iter::repeat;
@@ -9,7 +9,7 @@ use crate::arcs::{arcsine_input, arctangent_input};
 use crate::avoidance;
 use crate::compare::{angle_input, hypot_input, hypotenuse_holds, time};
 use crate::inputs::{Random, LIMITS};
-use crate::{assessment, math, method, motion, port, ruling};
+use crate::{assessment, math, method, motion, port, ruling, sheet_compare};
 
 /// The pattern that stands for every NaN.
 const NAN: u64 = 0x7ff8_0000_0000_0000;
@@ -119,13 +119,19 @@ fn arguments(which: u64, i: u64, random: &mut Random) -> (u64, u64) {
     }
 }
 
-/// Stores what a program of the port reads, records of little-endian words, and what it then has to print.
-fn store(program: &str, records: &[u64], answers: &[u64]) {
+/// Stores what a program of the port reads, and what it then has to print.
+fn store(program: &str, stdin: &[u8], stdout: &str) {
     let folder = Path::new(env!("CARGO_MANIFEST_DIR")).join("../crates").join(program);
+    fs::create_dir_all(&folder).unwrap();
+    fs::write(folder.join("stdin"), stdin).unwrap();
+    fs::write(folder.join("stdout"), stdout).unwrap();
+}
+
+/// Stores records of little-endian words, and their answers.
+fn store_records(program: &str, records: &[u64], answers: &[u64]) {
     let bytes: Vec<u8> = records.iter().flat_map(|word| word.to_le_bytes()).collect();
     let lines: String = answers.iter().map(|answer| format!("{answer:016x}\n")).collect();
-    fs::write(folder.join("stdin"), bytes).unwrap();
-    fs::write(folder.join("stdout"), lines).unwrap();
+    store(program, &bytes, &lines);
 }
 
 /// What `module_main` replays: a function's number, a part of its answer and the arguments; and the answers.
@@ -151,7 +157,9 @@ pub fn write() {
     ruling::write(&mut module);
     assessment::write(&mut module);
     avoidance::write(&mut module);
-    store("module_main", &module.records, &module.answers);
+    store_records("module_main", &module.records, &module.answers);
+    let (sheets, lines) = sheet_compare::replayed();
+    store("sheet_main", sheets.as_bytes(), &lines);
 }
 
 fn write_elementary() {
@@ -164,5 +172,5 @@ fn write_elementary() {
             answers.push(answer(which, a, b));
         }
     }
-    store("elementary_main", &records, &answers);
+    store_records("elementary_main", &records, &answers);
 }
