@@ -37,7 +37,7 @@ widths : AllGood (configChecks standard)
 unfolding isWidth inRange le ofBits
 widths = (tt, (tt, tt))
 
-party-vessel : (p : Party) → AllGood (partyChecks p) → AllGood (vesselChecks (p .motion))
+pub party-vessel : (p : Party) → AllGood (partyChecks p) → AllGood (vesselChecks (p .motion))
 unfolding partyChecks
 party-vessel p g = good-front (vesselChecks (p .motion)) (perhapsChecks (p .heading)) g
 
@@ -61,13 +61,13 @@ module _ (own : Party) (count : ℕ) (entries : List Entry) (wind : Perhaps) (de
   unfolding ruledChecks
   after-count = good-back (countChecks count) (partyChecks own ++ from-contacts) (all-good (ruledChecks own count entries wind desired c) h)
 
-  own-good : AllGood (partyChecks own)
+  pub own-good : AllGood (partyChecks own)
   own-good = good-front (partyChecks own) from-contacts after-count
 
   after-own : AllGood from-contacts
   after-own = good-back (partyChecks own) from-contacts after-count
 
-  each-good : (e : Entry) → List·Memᴰ e entries → AllGood (contactChecks (e .contact)) × AllGood (partyChecks (e .target))
+  pub each-good : (e : Entry) → List·Memᴰ e entries → AllGood (contactChecks (e .contact)) × AllGood (partyChecks (e .target))
   unfolding entryChecks
   each-good e m = let g = entry-good entries (good-front (contactsChecks entries) from-wind after-own) e m in (good-front (contactChecks (e .contact)) (partyChecks (e .target)) g, good-back (contactChecks (e .contact)) (partyChecks (e .target)) g)
 

@@ -41,3 +41,7 @@ module _ (ws : List ℕ) where
   pub counted : (n count : ℕ) → n ≡ min count maxContacts → count ≡ contactCount ws → n ≡ length (rowsOf ws)
   unfolding rowsOf
   counted n count is ec = is ∙ ap (λ k. min k maxContacts) ec ∙ sym (as-many (min (contactCount ws) maxContacts))
+
+  pub few-rows : length (rowsOf ws) ≤ maxContacts
+  unfolding rowsOf
+  few-rows = omega (arith, as-many (min (contactCount ws) maxContacts))

@@ -1,0 +1,3 @@
+-- Laws on the report.
+pub mod Accepted
+pub mod Reports

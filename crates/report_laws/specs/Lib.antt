@@ -1,0 +1,2 @@
+-- The report on an accepted sheet.
+pub mod Plain
