@@ -104,8 +104,9 @@ module _ (s : List ℕ) (ok : sheetVerdict s ≡ Verdict.Accepted) where
   -- so the ruled search accepts its arguments
   pub ruled-good : AllGood (ruledChecks (ownOf h) (length rs) es Unknown (desired h) (constraints h))
   unfolding ruledChecks
-  ruled-good =
-      (le→leb (length rs) maxContacts (few-rows (words s)),
-      good-both (partyChecks (ownOf h)) (contactsChecks es ++ (distanceChecks (desired h) ++ constraintChecks (constraints h))) party-good
-      (good-both (contactsChecks es) (distanceChecks (desired h) ++ constraintChecks (constraints h)) contacts-good
-      (good-both (distanceChecks (desired h)) (constraintChecks (constraints h)) desired-good constraints-good)))
+  ruled-good = (
+    le→leb (length rs) maxContacts (few-rows (words s)),
+    good-both (partyChecks (ownOf h)) (contactsChecks es ++ (distanceChecks (desired h) ++ constraintChecks (constraints h))) party-good
+        (good-both (contactsChecks es) (distanceChecks (desired h) ++ constraintChecks (constraints h)) contacts-good
+        (good-both (distanceChecks (desired h)) (constraintChecks (constraints h)) desired-good constraints-good)),
+  )

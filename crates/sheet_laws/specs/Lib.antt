@@ -1,2 +1,3 @@
--- The round trip of a sheet.
+-- When a sheet is refused, and its round trip.
+pub mod Exactly
 pub mod RoundTrip

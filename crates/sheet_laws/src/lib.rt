@@ -1,1 +1,1 @@
-// What is proved of a sheet beyond the functions' contracts: encoding and reading are each other's inverses. No functions.
+// What is proved of a sheet beyond the functions' contracts: each refusal has its reason, and encoding and reading are inverses of each other. No functions.
