@@ -1,3 +1,4 @@
 -- Laws on the report.
 pub mod Accepted
+pub mod Answered
 pub mod Reports

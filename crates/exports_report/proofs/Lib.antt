@@ -1,0 +1,2 @@
+-- Facts that the function's proof cites.
+pub mod Copying

@@ -1,0 +1,2 @@
+-- What the C interface writes.
+pub mod Written

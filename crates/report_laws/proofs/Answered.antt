@@ -1,0 +1,51 @@
+-- Every report has at least one byte, so that a caller of the C interface can tell 0, no room, from an answer.
+use mathlib.Core.List.{List, _++_}
+use Prim.Native.Nat.{ℕ, _+_, _<_}
+use native.Mathlib.Omega.{arith}
+use lib.ListN.{length, length-append}
+use Rattle.elementary.specs.declared.error.Refusal.{Refusal}
+use Rattle.arguments.specs.declared.Verdict.{Verdict}
+use Rattle.arguments.specs.declared.Verdict.the-variants as Verdict
+use Rattle.policy.specs.declared.PolicyAnswer.{PolicyAnswer}
+use Rattle.policy.specs.declared.PolicyAnswer.the-variants as Policy
+use Rattle.manoeuvre.specs.declared.constraints.ConstraintsAnswer.{ConstraintsAnswer}
+use Rattle.manoeuvre.specs.declared.constraints.ConstraintsAnswer.the-variants as Constraints
+use Rattle.rulings.specs.declared.RuledAnswer.{RuledAnswer}
+use Rattle.rulings.specs.declared.RuledAnswer.the-variants as Ruled
+use Rattle.text.specs.Text.{bytes}
+use Rattle.lines.specs.Lines.{alterLine, refusedLine}
+use Rattle.sheet_words.specs.Word.{words}
+use Rattle.sheet_record.specs.declared.Header.{Header}
+use Rattle.sheet_record.specs.declared.Row.{Row}
+use Rattle.sheet_record.specs.Record.{headerOf, rowsOf}
+use Rattle.sheet_values.specs.Values.{visibilityOf, ownOf}
+use Rattle.sheet.specs.Sheet.{sheetVerdict}
+use Rattle.contact_lines.specs.Contacts.{contactLines}
+use Rattle.report.specs.Report.{answerOn, answerLine, policyOn, constraintsOn, linesBy, linesOn, byVerdict, report}
+
+refused-some : (why : Refusal) → 0 < length (refusedLine why)
+unfolding refusedLine bytes
+refused-some why = omega arith
+
+answer-some : (rs : List Row) (a : RuledAnswer) → 0 < length (answerLine rs a)
+unfolding alterLine bytes
+answer-some rs (Ruled.Of m) = omega arith
+answer-some rs (Ruled.Refused why) = refused-some why
+
+lines-some : (h : Header) (rs : List Row) (p : PolicyAnswer) (c : ConstraintsAnswer) → 0 < length (linesBy h rs p c)
+lines-some h rs (Policy.Of p) (Constraints.Of c) =
+    let contacts = contactLines (ownOf h) (visibilityOf (h .visibility)) p rs in
+    omega (arith, length-append contacts (answerLine rs (answerOn h rs c)), answer-some rs (answerOn h rs c))
+lines-some h rs (Policy.Of p) (Constraints.Refused why) = refused-some why
+lines-some h rs (Policy.Refused why) c = refused-some why
+
+by-verdict : (v : Verdict) (lines : List ℕ) → 0 < length lines → 0 < length (byVerdict v lines)
+by-verdict Verdict.Accepted lines h = h
+by-verdict (Verdict.Refused why) lines h = refused-some why
+
+pub some-bytes : (s : List ℕ) → 0 < length (report s)
+unfolding report linesOn
+some-bytes s =
+    let h = headerOf (words s) in
+    let rs = rowsOf (words s) in
+    by-verdict (sheetVerdict s) (linesBy h rs (policyOn h) (constraintsOn h)) (lines-some h rs (policyOn h) (constraintsOn h))
