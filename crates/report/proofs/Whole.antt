@@ -36,7 +36,7 @@ by-short id p (Cpa.Of a) (Ruling.Of r) = contact-short id a (riskOf p (nearest a
 by-short id p (Cpa.Of a) (Ruling.Refused why) = omega (arith, refused-short why)
 by-short id p (Cpa.Refused why) r = omega (arith, refused-short why)
 
-answer-short : (rs : List Row) (a : RuledAnswer) → length (answerLine rs a) ≤ 104
+pub answer-short : (rs : List Row) (a : RuledAnswer) → length (answerLine rs a) ≤ 104
 answer-short rs (Ruled.Of m) = alter-short m (idAt rs (m .limiting))
 answer-short rs (Ruled.Refused why) = omega (arith, refused-short why)
 
@@ -47,7 +47,7 @@ module _ (own : Party) (visibility : Visibility) (policy : CpaPolicy) where
       let e = entryOf r in
       by-short (r .id) policy (cpaAnswer (own .motion) (e .contact) (e .target .motion)) (rulingAnswer (situationOf own visibility Unknown e) standard)
 
-  contacts-short : (rs : List Row) → length (contactLines own visibility policy rs) ≤ 129 * length rs
+  pub contacts-short : (rs : List Row) → length (contactLines own visibility policy rs) ≤ 129 * length rs
   unfolding contactLines flatMap
   contacts-short [] = lit≤ tt
   contacts-short (r ∷ rs) = omega (arith, length-append (lineOn own visibility policy r) (contactLines own visibility policy rs), line-short r, contacts-short rs)

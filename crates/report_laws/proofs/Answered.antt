@@ -1,6 +1,6 @@
--- Every report has at least one byte, so that a caller of the C interface can tell 0, no room, from an answer.
+-- Every report has at least one byte, so that a caller of the C interface can tell 0, no room, from an answer; and at most 4,232, which is the room that a caller needs: 32 lines of at most 129 bytes and one of at most 104.
 use mathlib.Core.List.{List, _++_}
-use Prim.Native.Nat.{ℕ, _+_, _<_}
+use Prim.Native.Nat.{ℕ, _+_, _*_, _≤_, _<_}
 use native.Mathlib.Omega.{arith}
 use lib.ListN.{length, length-append}
 use Rattle.elementary.specs.declared.error.Refusal.{Refusal}
@@ -21,6 +21,10 @@ use Rattle.sheet_record.specs.Record.{headerOf, rowsOf}
 use Rattle.sheet_values.specs.Values.{visibilityOf, ownOf}
 use Rattle.sheet.specs.Sheet.{sheetVerdict}
 use Rattle.contact_lines.specs.Contacts.{contactLines}
+use Rattle.clearing.specs.Clearing.{maxContacts}
+use Rattle.sheet_record.proofs.Filling.{few-rows}
+use Rattle.lines_laws.proofs.Short.{refused-short}
+use Rattle.report.proofs.Whole.{answer-short, contacts-short}
 use Rattle.report.specs.Report.{answerOn, answerLine, policyOn, constraintsOn, linesBy, linesOn, byVerdict, report}
 
 refused-some : (why : Refusal) → 0 < length (refusedLine why)
@@ -49,3 +53,22 @@ some-bytes s =
     let h = headerOf (words s) in
     let rs = rowsOf (words s) in
     by-verdict (sheetVerdict s) (linesBy h rs (policyOn h) (constraintsOn h)) (lines-some h rs (policyOn h) (constraintsOn h))
+
+-- ---- at most
+lines-short : (h : Header) (rs : List Row) (p : PolicyAnswer) (c : ConstraintsAnswer) → length rs ≤ maxContacts → length (linesBy h rs p c) ≤ 4232
+lines-short h rs (Policy.Of p) (Constraints.Of c) few =
+    let contacts = contactLines (ownOf h) (visibilityOf (h .visibility)) p rs in
+    omega (arith, length-append contacts (answerLine rs (answerOn h rs c)), contacts-short (ownOf h) (visibilityOf (h .visibility)) p rs, answer-short rs (answerOn h rs c), few)
+lines-short h rs (Policy.Of p) (Constraints.Refused why) few = omega (arith, refused-short why)
+lines-short h rs (Policy.Refused why) c few = omega (arith, refused-short why)
+
+short-by : (v : Verdict) (lines : List ℕ) → length lines ≤ 4232 → length (byVerdict v lines) ≤ 4232
+short-by Verdict.Accepted lines h = h
+short-by (Verdict.Refused why) lines h = omega (arith, refused-short why)
+
+pub at-most : (s : List ℕ) → length (report s) ≤ 4232
+unfolding report linesOn
+at-most s =
+    let h = headerOf (words s) in
+    let rs = rowsOf (words s) in
+    short-by (sheetVerdict s) (linesBy h rs (policyOn h) (constraintsOn h)) (lines-short h rs (policyOn h) (constraintsOn h) (few-rows (words s)))
