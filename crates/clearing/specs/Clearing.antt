@@ -102,6 +102,10 @@ passageAt own floor m =
     let relative = difference (m .velocity) own in
     cond (le zero (closingRate (m .offset) relative)) (At (m .range)) (passed floor (passingIn (approachFrom (m .range) (m .offset) relative)))
 
+abbrev pub isBlocked : Passage → Bool
+isBlocked Blocked = true
+isBlocked (At d) = false
+
 abbrev pub isStopped : Tally → Bool
 isStopped Stopped = true
 isStopped Free = false

@@ -3,8 +3,12 @@
 //
 // A contact's offset and velocity are worked out once (`Moving`), own craft's velocity once for each course. specs/Clearing.antt has
 // the plain definition, by `closest_point_of_approach`, and beside it what is computed here; proofs/Prepared.antt says that they agree.
+// Most courses of a search are blocked, and one contact that blocks is enough. So the suspects come first, of which a product tells, without a root
+// or a division, that they may close under the distance. A contact blocks only if it is worked out to; where no suspect does, all are worked out.
 ghost use mathlib.Core.Path.{_≡_};
+ghost use mathlib.Core.Bool.{true};
 ghost use Prim.Native.Nat.{min};
+ghost use Rattle.clearing.specs.declared.Clearance.the-variants.{No};
 ghost use Rattle.clearing.specs.Clearing as Spec;
 use manoeuvre::answer::Limiting;
 use motion::units::Distance;
@@ -17,6 +21,9 @@ use relative_motion::approach::Pass;
 
 // The room for contacts.
 pub const MAX_CONTACTS: usize = 32;
+
+// How many times the square of the wanted distance a suspect's may be.
+const DOUBT: f64 = 1.000001;
 
 // A target as the search sees it: where it is and how it moves.
 pub struct Target {
@@ -164,8 +171,48 @@ pub fn held(count: usize) -> usize
     MAX_CONTACTS
 }
 
-// With own craft at a velocity, whether no contact of the scene closes under `floor`.
-pub fn clears(own: Components, scene: Scene, floor: f64) -> Clearance
+// Whether a contact seems to close to a point nearer than the root of `square`: that point's distance is the offset's cross product with
+// the relative velocity, over the relative speed. Nothing is promised of it.
+fn is_suspect(own: Components, m: Moving, square: f64) -> bool {
+    let offset = m.offset;
+    let velocity = m.velocity;
+    let relative = vessel::difference(velocity, own);
+    let rate = offset.north * relative.north + offset.east * relative.east;
+    let cross = offset.north * relative.east - offset.east * relative.north;
+    let speed = relative.north * relative.north + relative.east * relative.east;
+    (rate < 0.0) & (cross * cross < square * speed)
+}
+
+fn is_blocked(p: Passage) -> bool
+    ensures { λ r. ⌜ r ≡ Spec.isBlocked p ⌝ }
+{
+    match p {
+        Passage::Blocked => true,
+        Passage::At(d) => false,
+    }
+}
+
+// Whether one of the suspects blocks the course.
+fn suspect_blocks(own: Components, scene: Scene, floor: f64) -> bool
+    ensures { λ r. ⌜ (r ≡ true → Spec.clearsAt own floor (Spec.movings scene) ≡ No) ⌝ }
+{
+    let count = held(scene.count);
+    let square = floor * floor * DOUBT;
+    let mut k: usize = 0;
+    while k < count {
+        let m = scene.list[k];
+        if is_suspect(own, m, square) {
+            if is_blocked(passage_of(own, m, floor)) {
+                return true;
+            }
+        }
+        k += 1;
+    }
+    false
+}
+
+// All contacts, each worked out.
+fn tallied(own: Components, scene: Scene, floor: f64) -> Clearance
     ensures { λ r. ⌜ r ≡ Spec.clearsAt own floor (Spec.movings scene) ⌝ }
 {
     let count = held(scene.count);
@@ -180,4 +227,14 @@ pub fn clears(own: Components, scene: Scene, floor: f64) -> Clearance
         i += 1;
     }
     cleared(tally)
+}
+
+// With own craft at a velocity, whether no contact of the scene closes under `floor`.
+pub fn clears(own: Components, scene: Scene, floor: f64) -> Clearance
+    ensures { λ r. ⌜ r ≡ Spec.clearsAt own floor (Spec.movings scene) ⌝ }
+{
+    if suspect_blocks(own, scene, floor) {
+        return Clearance::No;
+    }
+    tallied(own, scene, floor)
 }

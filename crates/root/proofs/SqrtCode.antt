@@ -17,7 +17,7 @@ use Rattle.laws.proofs.Bools.{holds, fails}
 use Rattle.laws.proofs.Numbers.{le-by, lt-by}
 use Rattle.laws.proofs.Pattern.{pattern-of-digits, pattern-lt, normal-units, subnormal-units, units-above-zero}
 use Rattle.laws.proofs.Units.{finite-of-units}
-use Rattle.root.specs.Digits.{Remainder}
+use Rattle.root.specs.Digits.{Remainder, Excess}
 use Rattle.root.specs.Root.{IsRoot, NearestRoot, isqrt}
 use Rattle.root.specs.Sqrt.{sqrt, Nearest, rootDigits, rootPattern}
 use Rattle.root.proofs.NearestSqrt.{Parts, parts-ge, parts-le, nearest-of-parts, nearest-unique, sqrt-is}
@@ -78,7 +78,7 @@ few-places m t s h e k = lt-by (λ g. never (pow-mono g))
     never : 2 ^ 52 ≤ 2 ^ s → ⊥
     never g = omega (arith, mul-le-mul h g)
 
--- ---- is_nearest: r * r by halves of 26 bits is high * 2 ^ 52 + low
+-- ---- excess: r * r by halves of 26 bits is high * 2 ^ 52 + low
 pub record Squares (r : ℕ) : Type 0 where
   pub high : r / 67108864 * (r / 67108864) ≤ 2 ^ 54
   pub cross : 2 * (r / 67108864) * (r % 67108864) ≤ 2 ^ 55
@@ -91,27 +91,47 @@ squares r h = let a : r / 67108864 ≤ 2 ^ 27 = omega arith in let b : r % 67108
     twice : (a b : ℕ) → a * b ≤ 2 ^ 27 * 2 ^ 26 → 2 * a * b ≤ 2 ^ 55
     twice a b h = omega arith
 
-pub nearest-of-tests : (d r : ℕ) → r ≤ 2 ^ 53
+pub excess-is : (d r : ℕ)
     → let high = r / 67108864 * (r / 67108864) + 2 * (r / 67108864) * (r % 67108864) / 67108864 in
     let low = 2 * (r / 67108864) * (r % 67108864) % 67108864 * 67108864 + r % 67108864 * (r % 67108864) in
-    d ≤ high + 4 → (high + 4 - d) * 4503599627370496 + low < 18014398509481984 + r → 18014398509481984 ≤ (high + 4 - d) * 4503599627370496 + low + r → NearestRoot (d * 2 ^ 52) r
-nearest-of-tests d r h p q k =
+    d ≤ high + 4 → (high + 4 - d) * 4503599627370496 + low + d * 2 ^ 52 ≡ r * r + 2 ^ 54
+excess-is d r p =
     let s = r / 67108864 * (r / 67108864) + 2 * (r / 67108864) * (r % 67108864) / 67108864 in
     let t = 2 * (r / 67108864) * (r % 67108864) % 67108864 * 67108864 + r % 67108864 * (r % 67108864) in
-    let w = square (r / 67108864) (r % 67108864) (2 * (r / 67108864) * (r % 67108864)) (omega arith) refl in
-    record { low = over s t (r * r) (s + 4 - d) (omega arith) w q; high = under s t (r * r) (s + 4 - d) (omega arith) w k }
+    go s t (r * r) (s + 4 - d) (omega arith) (square (r / 67108864) (r % 67108864) (2 * (r / 67108864) * (r % 67108864)) (omega arith) refl)
   where
     square : (a b m : ℕ) → a * 67108864 + b ≡ r → 2 * a * b ≡ m → r * r ≡ (a * a + m / 67108864) * 2 ^ 52 + (m % 67108864 * 67108864 + b * b)
     square a b m e f = subst (λ x. x * x ≡ (a * a + m / 67108864) * 2 ^ 52 + (m % 67108864 * 67108864 + b * b)) e (omega (arith, f))
 
-    over : (s t w g : ℕ) → g + d ≡ s + 4 → w ≡ s * 2 ^ 52 + t → g * 4503599627370496 + t < 18014398509481984 + r → w < d * 2 ^ 52 + r
-    over s t w g e f a = omega arith
+    go : (s t w g : ℕ) → g + d ≡ s + 4 → w ≡ s * 2 ^ 52 + t → g * 4503599627370496 + t + d * 2 ^ 52 ≡ w + 2 ^ 54
+    go s t w g e f = omega arith
 
-    under : (s t w g : ℕ) → g + d ≡ s + 4 → w ≡ s * 2 ^ 52 + t → 18014398509481984 ≤ g * 4503599627370496 + t + r → d * 2 ^ 52 ≤ w + r
-    under s t w g e f a = omega arith
+pub nothing : (d r : ℕ) → Excess d r 0
+nothing d r = record { is = λ h. absurd (lt-irrefl 0 h); few = omega arith }
 
-pub no : {P : Type 0} → false ≡ true → P
-no e = absurd (true≢false (sym e))
+-- ---- which number is nearest, by the excess x of r
+module _ (n r x : ℕ) (e : x + n ≡ r * r + 2 ^ 54) where
+  pub itself : 2 ^ 54 ≤ x + r → x < 2 ^ 54 + r → NearestRoot n r
+  itself h k = record { low = low (r * r) e k; high = high (r * r) e h }
+    where
+      low : (s : ℕ) → x + n ≡ s + 2 ^ 54 → x < 2 ^ 54 + r → s < n + r
+      low s e k = omega arith
+
+      high : (s : ℕ) → x + n ≡ s + 2 ^ 54 → 2 ^ 54 ≤ x + r → n ≤ s + r
+      high s e h = omega arith
+
+  pub after : x + r < 2 ^ 54 → 2 ^ 54 ≤ x + 3 * r + 2 → NearestRoot n (r + 1)
+  after h k = record { low = omega arith; high = omega arith }
+
+  pub before : 0 < r → 2 ^ 54 + r ≤ x → x + 2 < 2 ^ 54 + 3 * r → NearestRoot n (r - 1)
+  before p h k = go r p e h k
+    where
+      go : (r : ℕ) → 0 < r → x + n ≡ r * r + 2 ^ 54 → 2 ^ 54 + r ≤ x → x + 2 < 2 ^ 54 + 3 * r → NearestRoot n (r - 1)
+      go zero p e h k = absurd (lt-irrefl 0 p)
+      go (suc s) p e h k = subst (NearestRoot n) (sym (less s)) (record { low = omega arith; high = omega arith })
+        where
+          less : (s : ℕ) → suc s - 1 ≡ s
+          less s = omega arith
 
 -- ---- nearest_root
 pub doubled : (m o : ℕ) → 2 ^ 52 ≤ m → m < 2 ^ 53 → o ≤ 1 → (0 < m * (1 + o)) × (m * (1 + o) < 2 ^ 54)

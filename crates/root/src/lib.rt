@@ -1,12 +1,11 @@
 // The square root and the hypotenuse of f64s, by whole numbers.
 //
 // `sqrt` takes the digits m and the exponent j of its argument, which is m * 2^j in units of 2^-2148, and finds the whole number
-// nearest to the root of m * 2^52 or m * 2^53. A float computation makes a guess, whole numbers decide: the guess and its two
-// neighbours are tried, and if none is the nearest the root is found digit by digit.
+// nearest to the root of m * 2^52 or m * 2^53. A float computation makes a guess, whole numbers decide: the square of the guess tells whether it
+// is the nearest, or the number after or before it is, and if none is the root is found digit by digit.
 ghost use mathlib.Core.Path.{_≡_};
-ghost use mathlib.Core.Bool.{true};
 ghost use Prim.Native.Nat.{_+_, _*_, _^_, _≤_, _<_};
-ghost use Rattle.root.specs.Digits.{Remainder};
+ghost use Rattle.root.specs.Digits.{Remainder, Excess};
 ghost use Rattle.root.specs.Root.{IsRoot, NearestRoot};
 ghost use Rattle.root.specs.Sqrt.{rootPattern, sqrt as sqrtOf};
 ghost use Rattle.root.specs.Hypot.{hypotOrdered, hypot as hypotOf};
@@ -16,6 +15,9 @@ const LEADING: u64 = 4503599627370496;
 
 // The half of a 53-digit number: 2^26.
 const HALF: u64 = 67108864;
+
+// 2^54: what an excess of 0 counts as.
+const MIDDLE: u64 = 18014398509481984;
 
 // The largest argument of the hypotenuse, 2^500, and the size below which it is the larger argument, 2^-500.
 const LARGEST: f64 = 3.273390607896142e150;
@@ -96,31 +98,35 @@ fn normalise(t: u64) -> Normalised
     }
 }
 
-// About 2^52 times the root of f = m * (1 + odd) / 2^52, by three steps of Newton's method for the inverse root and one
-// correction. Nothing is promised of it but its 53 digits.
+// About 2^52 times the root of f = m * (1 + odd) / 2^52. Beside the root s goes half its inverse, h: from first values by the bit pattern, good to
+// 1 part in 29, by a quadratic polynomial, a step of Newton's method and a correction. Nothing is promised of it but its 53 digits.
 fn guess(m: u64, odd: u64) -> u64
     requires { ⌜ (2 ^ 52 ≤ m) × (m < 2 ^ 53) × (odd ≤ 1) ⌝ }
     ensures { λ r. ⌜ (2 ^ 52 ≤ r) × (r < 2 ^ 53) ⌝ }
 {
     let pattern = (1022 + odd) * LEADING + m;
     let f = f64::from_bits(pattern);
-    let h = 0.5 * f;
-    let y0 = f64::from_bits(6910469410427058089 - pattern / 2);
-    let y1 = y0 * (1.5 - h * y0 * y0);
-    let y2 = y1 * (1.5 - h * y1 * y1);
-    let y3 = y2 * (1.5 - h * y2 * y2);
-    let s = f * y3;
-    let g = s + 0.5 * y3 * (f - s * s);
+    let y = f64::from_bits(6910469410427058089 - pattern / 2);
+    let s0 = f * y;
+    let h0 = 0.5 * y;
+    let t = s0 * y;
+    let p = 1.876594766976193 - 1.2520933041327758 * t + 0.37549875440821373 * (t * t);
+    let s1 = s0 * p;
+    let h1 = h0 * p;
+    let q = 1.5 - s1 * h1;
+    let s2 = s1 * q;
+    let h2 = h1 * q;
+    let g = s2 + h2 * (f - s2 * s2);
     if g == g {
         return f64::to_bits(g) % LEADING + LEADING;
     }
     LEADING
 }
 
-// Whether r is the whole number nearest to the root of d * 2^52: r * r by halves of 26 bits is high * 2^52 + low.
-fn is_nearest(d: u64, r: u64) -> bool
+// By how much r * r exceeds d * 2^52, plus 2^54; or 0 where it is far from it. r * r by halves of 26 bits is high * 2^52 + low.
+fn excess(d: u64, r: u64) -> u64
     requires { ⌜ (d < 2 ^ 54) × (r ≤ 2 ^ 53) ⌝ }
-    ensures { λ b. ⌜ (b ≡ true → NearestRoot (d * 2 ^ 52) r) ⌝ }
+    ensures { λ x. ⌜ Excess d r x ⌝ }
 {
     let r1 = r / HALF;
     let r0 = r % HALF;
@@ -128,19 +134,36 @@ fn is_nearest(d: u64, r: u64) -> bool
     let high = r1 * r1 + cross / HALF;
     let low = cross % HALF * HALF + r0 * r0;
     if high + 4 < d {
-        return false;
+        return 0;
     }
     if d + 4 < high {
-        return false;
+        return 0;
     }
-    let excess = (high + 4 - d) * LEADING + low;
-    if excess >= 18014398509481984 + r {
-        return false;
+    (high + 4 - d) * LEADING + low
+}
+
+// Where r is too small: the number after it, or the root by its digits.
+fn one_more(d: u64, r: u64, x: u64) -> u64
+    requires { ⌜ (0 < d) × (d < 2 ^ 54) × (r ≤ 2 ^ 53) × Excess d r x × (x + r < 2 ^ 54) ⌝ }
+    ensures { λ s. ⌜ NearestRoot (d * 2 ^ 52) s ⌝ }
+{
+    if 0 < x {
+        if MIDDLE <= x + 3 * r + 2 {
+            return r + 1;
+        }
     }
-    if excess + r < 18014398509481984 {
-        return false;
+    root_by_digits(d)
+}
+
+// Where r is too large: the number before it, or the root by its digits.
+fn one_less(d: u64, r: u64, x: u64) -> u64
+    requires { ⌜ (0 < d) × (d < 2 ^ 54) × (0 < r) × (r ≤ 2 ^ 53) × Excess d r x × (2 ^ 54 + r ≤ x) ⌝ }
+    ensures { λ s. ⌜ NearestRoot (d * 2 ^ 52) s ⌝ }
+{
+    if x + 2 < MIDDLE + 3 * r {
+        return r - 1;
     }
-    true
+    root_by_digits(d)
 }
 
 // The whole number nearest to the root of d * 2^52, for d = m or 2 m.
@@ -150,16 +173,14 @@ fn nearest_root(m: u64, odd: u64) -> u64
 {
     let d = m * (1 + odd);
     let r = guess(m, odd);
-    if is_nearest(d, r) {
+    let x = excess(d, r);
+    if x + r < MIDDLE {
+        return one_more(d, r, x);
+    }
+    if x < MIDDLE + r {
         return r;
     }
-    if is_nearest(d, r + 1) {
-        return r + 1;
-    }
-    if is_nearest(d, r - 1) {
-        return r - 1;
-    }
-    root_by_digits(d)
+    one_less(d, r, x)
 }
 
 // The bit pattern of the root of m * 2^j / 2^2148.

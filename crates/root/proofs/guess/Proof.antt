@@ -16,11 +16,11 @@ add-pattern-2 c = search needs
 float-from-bits-f : tie.Need-float-from-bits-f
 float-from-bits-f c = no-nan-bits _ (omega arith)
 
-sub-y0 : tie.Need-sub-y0
-sub-y0 c = search needs
+sub-y : tie.Need-sub-y
+sub-y c = search needs
 
-float-from-bits-y0 : tie.Need-float-from-bits-y0
-float-from-bits-y0 c = no-nan-bits _ (omega arith)
+float-from-bits-y : tie.Need-float-from-bits-y
+float-from-bits-y c = no-nan-bits _ (omega arith)
 
 float-to-bits-result : tie.Need-float-to-bits-result
 float-to-bits-result c = no-nan-of-eq _ (c .if1 .taken)
@@ -42,8 +42,8 @@ guess-spec =
     mul-pattern
     add-pattern-2
     float-from-bits-f
-    sub-y0
-    float-from-bits-y0
+    sub-y
+    float-from-bits-y
     float-to-bits-result
     add-result
     returns
