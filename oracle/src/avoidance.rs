@@ -814,8 +814,8 @@ impl RuledCase {
         self.reference().shared == (true, true)
     }
 
-    /// Nothing clears, and the last contact is always the one that does not.
-    pub fn worst() -> RuledCase {
+    /// As many contacts as there is room for, of which the last alone blocks, on every course.
+    fn blocking() -> Vec<[f64; 4]> {
         let mut random = Random::new(5);
         let clears = |[bearing, range, course, speed]: [f64; 4]| {
             (0..360u32).all(|own_course| {
@@ -831,10 +831,25 @@ impl RuledCase {
         let mut contacts: Vec<[f64; 4]> =
             far.filter(|contact| clears(*contact) && RuledCase::timed(&[*contact]).shares_both()).take(MAX_CONTACTS - 1).collect();
         contacts.push([0.0, 0.9, 180.0, 100.0]);
-        let case = RuledCase::timed(&contacts);
-        let answer = case.reference();
-        assert!(answer.words[0] == 5 && answer.shared == (true, true));
-        case
+        contacts
+    }
+
+    /// So many contacts and alterations up to so many degrees; nothing clears, and the last contact is always the one that does not.
+    pub fn worst_of(cases: &[(usize, f64)]) -> Vec<RuledCase> {
+        let contacts = RuledCase::blocking();
+        let case = |(count, most): &(usize, f64)| {
+            let mut case = RuledCase::timed(&contacts[MAX_CONTACTS - count..]);
+            case.floats[6] = *most;
+            let answer = case.reference();
+            assert!(answer.words[0] == 5 && answer.shared == (true, true));
+            case
+        };
+        cases.iter().map(case).collect()
+    }
+
+    /// The worst case.
+    pub fn worst() -> RuledCase {
+        RuledCase::worst_of(&[(MAX_CONTACTS, 180.0)]).remove(0)
     }
 
     /// Eight contacts, both sides permitted, and an answer of 57 degrees.

@@ -56,6 +56,7 @@ pub fn all() {
     rule_of_the_road();
     assess();
     avoid_and_search();
+    growth();
 }
 
 /// The functions of relative motion on accepted arguments that they don't refuse, beside the Rust on the port's elementary
@@ -115,6 +116,18 @@ macro_rules! rust_times {
 
 rust_times!(six_times, crate::traffic_calls);
 rust_times!(std_times, kinavis_std::traffic_calls);
+
+/// How the time of the port's ruled search grows where nothing clears: with the contacts, and with the trials.
+fn growth() {
+    let contacts = [1usize, 2, 4, 8, 16, 32].map(|count| (count, 180.0));
+    let trials = [0.0, 22.0, 45.0, 90.0, 180.0].map(|most| (32usize, most));
+    println!("ruled search, nothing clears        port");
+    for (count, most) in contacts.into_iter().chain(trials) {
+        let cases = RuledCase::worst_of(&[(count, most)]);
+        let time = measure(&cases.iter().collect::<Vec<_>>(), |case| case.port(1));
+        println!("{count:>2} contacts, {:>3} trials {:12.2} µs", 2.0 * (most + 1.0), time / 1000.0);
+    }
+}
 
 /// `avoid`, likewise; and the ruled search beside the Rust's `search`.
 fn avoid_and_search() {
