@@ -5,9 +5,9 @@ use borrow.Author.Needs.{needs}
 use lib.ListN.{length}
 use Rattle.clearing.specs.Clearing.{maxContacts}
 use Rattle.traffic.specs.Traffic.{contacts}
-use Rattle.exports_avoidance.proofs.Filling.{Filled, none, more, filled, placed}
-use Rattle.exports_avoidance.proofs.traffic_of.Statement.{statement}
-use Rattle.exports_avoidance.proofs.traffic_of.Tie as tie
+use Rattle.avoidance_codes.proofs.Filling.{Filled, none, more, filled, placed}
+use Rattle.avoidance_codes.proofs.traffic_of.Statement.{statement}
+use Rattle.avoidance_codes.proofs.traffic_of.Tie as tie
 
 abbrev Inv-loop : tie.InvT-loop
 Inv-loop wide count floats n t₀ i₀ t i = (i ≤ n) × Filled wide floats (t .list) i

@@ -11,7 +11,7 @@ use lib.Ieee.{Float}
 use Rattle.clearing.specs.Clearing.{maxContacts}
 use Rattle.clearing.proofs.Loop.{take-held}
 use Rattle.traffic.specs.declared.Entry.{Entry}
-use Rattle.exports_avoidance.specs.Words.{entryAt, placeOf, firstOf, entries}
+use Rattle.avoidance_codes.specs.Codes.{entryAt, placeOf, firstOf, entries}
 
 pub record Filled (wide : Bool) (floats : List Float) (list : List Entry) (i : ℕ) : Type 0 where
   pub full : length list ≡ maxContacts

@@ -1,8 +1,8 @@
 use borrow.Author.Tests.{eq-eqb, ne-eqb}
 use mathlib.Core.Path.{refl}
-use Rattle.exports_avoidance.specs.Words.{permittedSides}
-use Rattle.exports_avoidance.proofs.permitted_sides.Statement.{statement}
-use Rattle.exports_avoidance.proofs.permitted_sides.Tie as tie
+use Rattle.avoidance_codes.specs.Codes.{permittedSides}
+use Rattle.avoidance_codes.proofs.permitted_sides.Statement.{statement}
+use Rattle.avoidance_codes.proofs.permitted_sides.Tie as tie
 
 returns : tie.Need-returns
 unfolding permittedSides

@@ -1,7 +1,7 @@
 use mathlib.Core.Path.{refl}
 use borrow.Author.Needs.{needs}
-use Rattle.exports_avoidance.proofs.limiting_word.Statement.{statement}
-use Rattle.exports_avoidance.proofs.limiting_word.Tie as tie
+use Rattle.avoidance_words.proofs.limiting_word.Statement.{statement}
+use Rattle.avoidance_words.proofs.limiting_word.Tie as tie
 
 enum-told : tie.Need-enum-told
 enum-told c = search needs

@@ -1,8 +1,8 @@
 use mathlib.Core.Path.{refl}
-use Rattle.exports_avoidance.specs.Words.{placeOf}
+use Rattle.avoidance_codes.specs.Codes.{placeOf}
 use borrow.Author.Needs.{needs}
-use Rattle.exports_avoidance.proofs.place_of.Statement.{statement}
-use Rattle.exports_avoidance.proofs.place_of.Tie as tie
+use Rattle.avoidance_codes.proofs.place_of.Statement.{statement}
+use Rattle.avoidance_codes.proofs.place_of.Tie as tie
 
 mul-result : tie.Need-mul-result
 mul-result c = search needs

@@ -1,10 +1,10 @@
 use borrow.Author.Tests.{eq-eqb, ne-eqb}
 use mathlib.Core.Path.{refl}
-use Rattle.exports_avoidance.specs.Words.{constraintsOf}
-use Rattle.exports_avoidance.proofs.Made.{by-rate, not-made}
+use Rattle.avoidance_codes.specs.Codes.{constraintsOf}
+use Rattle.avoidance_codes.proofs.Made.{by-rate, not-made}
 use borrow.Author.Needs.{needs}
-use Rattle.exports_avoidance.proofs.constraints_of.Statement.{statement}
-use Rattle.exports_avoidance.proofs.constraints_of.Tie as tie
+use Rattle.avoidance_codes.proofs.constraints_of.Statement.{statement}
+use Rattle.avoidance_codes.proofs.constraints_of.Tie as tie
 
 permitted-sides-requires : tie.Need-permitted-sides-requires
 permitted-sides-requires c κs = tt

@@ -1,8 +1,8 @@
 use mathlib.Core.Path.{refl}
-use Rattle.exports_avoidance.specs.Words.{entryAt}
+use Rattle.avoidance_codes.specs.Codes.{entryAt}
 use borrow.Author.Needs.{needs}
-use Rattle.exports_avoidance.proofs.entry_at.Statement.{statement}
-use Rattle.exports_avoidance.proofs.entry_at.Tie as tie
+use Rattle.avoidance_codes.proofs.entry_at.Statement.{statement}
+use Rattle.avoidance_codes.proofs.entry_at.Tie as tie
 
 add-float-at : tie.Need-add-float-at
 add-float-at c = search needs
