@@ -4,11 +4,11 @@ use Prim.Native.Nat.{min, _≤_, _<_}
 use mathlib.Core.Path.{_≡_, refl, sym, ap, _∙_}
 use Rattle.clearing.specs.Clearing.{maxContacts}
 use Rattle.sheet_record.specs.Record.{rows}
-use Rattle.report.specs.Report.{idAt}
-use Rattle.report.proofs.Ids.{inside, beyond}
+use Rattle.sheet_limits.specs.Limits.{idAt}
+use Rattle.sheet_limits.proofs.Ids.{inside, beyond}
 use borrow.Author.Needs.{needs}
-use Rattle.report.proofs.id_at.Statement.{statement}
-use Rattle.report.proofs.id_at.Tie as tie
+use Rattle.sheet_limits.proofs.id_at.Statement.{statement}
+use Rattle.sheet_limits.proofs.id_at.Tie as tie
 
 listed : (c : tie.Start) → length (c .args .t1 .list) ≡ maxContacts
 listed c = simp length-map at (c .good .0 .1 .1 .1 .0 .1 .0 .1)

@@ -1,7 +1,7 @@
 use mathlib.Core.Path.{refl}
-use Rattle.report.specs.Report.{constraintsOn}
-use Rattle.report.proofs.constraints_on.Statement.{statement}
-use Rattle.report.proofs.constraints_on.Tie as tie
+use Rattle.sheet_limits.specs.Limits.{constraintsOn}
+use Rattle.sheet_limits.proofs.constraints_on.Statement.{statement}
+use Rattle.sheet_limits.proofs.constraints_on.Tie as tie
 
 scaled-requires : tie.Need-scaled-requires
 scaled-requires c κs = tt

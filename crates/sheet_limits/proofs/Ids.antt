@@ -9,7 +9,7 @@ use lib.Seq.{getD-take}
 use Rattle.clearing.specs.Clearing.{maxContacts}
 use Rattle.manoeuvre.specs.declared.answer.Limiting.the-variants as Limiting
 use Rattle.sheet_record.specs.declared.Row.{Row}
-use Rattle.report.specs.Report.{idAt}
+use Rattle.sheet_limits.specs.Limits.{idAt}
 
 there : (rs : List Row) (i : ℕ) (d : Row) → i < length rs → getD (map (λ r. r .id) rs) i 0 ≡ getD rs i d .id
 there [] i d h = absurd (not-suc-le-zero h)

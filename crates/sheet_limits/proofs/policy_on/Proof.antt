@@ -1,8 +1,8 @@
 use mathlib.Core.Path.{refl}
-use Rattle.report.specs.Report.{policyOn}
+use Rattle.sheet_limits.specs.Limits.{policyOn}
 use borrow.Author.Needs.{needs}
-use Rattle.report.proofs.policy_on.Statement.{statement}
-use Rattle.report.proofs.policy_on.Tie as tie
+use Rattle.sheet_limits.proofs.policy_on.Statement.{statement}
+use Rattle.sheet_limits.proofs.policy_on.Tie as tie
 
 cast-t3 : tie.Need-cast-t3
 cast-t3 c = search needs
