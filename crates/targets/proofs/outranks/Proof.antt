@@ -1,6 +1,6 @@
-use Rattle.picture.proofs.Ranks.{same-rank, other-rank}
-use Rattle.picture.proofs.outranks.Statement.{statement}
-use Rattle.picture.proofs.outranks.Tie as tie
+use Rattle.targets.proofs.Ranks.{same-rank, other-rank}
+use Rattle.targets.proofs.outranks.Statement.{statement}
+use Rattle.targets.proofs.outranks.Tie as tie
 
 risk-requires : tie.Need-risk-requires
 risk-requires c κs = tt

@@ -11,7 +11,7 @@ use Rattle.risk.specs.Risk.{rank}
 use Rattle.assessment.specs.declared.assess.PerhapsTime.{PerhapsTime}
 use Rattle.assessment.specs.declared.assess.CollisionAssessment.{CollisionAssessment}
 use Rattle.assessment.specs.Assess.{timeIn}
-use Rattle.picture.specs.Picture.{timeOf, outranks}
+use Rattle.targets.specs.Picture.{timeOf, outranks}
 
 module _ (a b : CollisionAssessment) (p q : CollisionRisk) (m n : ℕ) (ep : p ≡ a .risk) (eq : q ≡ b .risk) (em : m ≡ rank p) (en : n ≡ rank q) where
   first : m ≡ rank (a .risk)

@@ -1,7 +1,7 @@
 use mathlib.Core.Path.{refl}
 use borrow.Author.Needs.{needs}
-use Rattle.picture.proofs.keep.Statement.{statement}
-use Rattle.picture.proofs.keep.Tie as tie
+use Rattle.targets.proofs.keep.Statement.{statement}
+use Rattle.targets.proofs.keep.Tie as tie
 
 enum-told : tie.Need-enum-told
 enum-told c = search needs

@@ -1,8 +1,8 @@
 use borrow.Author.Tests.{eq-eqb, ne-eqb}
 use mathlib.Core.Path.{refl}
 use borrow.Author.Needs.{needs}
-use Rattle.picture.proofs.or_this.Statement.{statement}
-use Rattle.picture.proofs.or_this.Tie as tie
+use Rattle.targets.proofs.or_this.Statement.{statement}
+use Rattle.targets.proofs.or_this.Tie as tie
 
 enum-known-found : tie.Need-enum-known-found
 enum-known-found c = search needs

@@ -1,7 +1,7 @@
 use mathlib.Core.Path.{refl}
-use Rattle.picture.specs.Picture.{isAtLeast}
-use Rattle.picture.proofs.is_at_least.Statement.{statement}
-use Rattle.picture.proofs.is_at_least.Tie as tie
+use Rattle.targets.specs.Picture.{isAtLeast}
+use Rattle.targets.proofs.is_at_least.Statement.{statement}
+use Rattle.targets.proofs.is_at_least.Tie as tie
 
 risk-requires : tie.Need-risk-requires
 risk-requires c κs = tt

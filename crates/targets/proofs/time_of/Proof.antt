@@ -1,7 +1,7 @@
 use mathlib.Core.Path.{refl}
 use borrow.Author.Needs.{needs}
-use Rattle.picture.proofs.time_of.Statement.{statement}
-use Rattle.picture.proofs.time_of.Tie as tie
+use Rattle.targets.proofs.time_of.Statement.{statement}
+use Rattle.targets.proofs.time_of.Tie as tie
 
 enum-told : tie.Need-enum-told
 enum-told c = search needs
