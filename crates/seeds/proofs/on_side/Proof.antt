@@ -1,7 +1,7 @@
-use Rattle.avoid.proofs.Steps.{takes-seed, takes-grid, not-permitted}
+use Rattle.seeds.proofs.Steps.{takes-seed, takes-grid, not-permitted}
 use borrow.Author.Needs.{needs}
-use Rattle.avoid.proofs.on_side.Statement.{statement}
-use Rattle.avoid.proofs.on_side.Tie as tie
+use Rattle.seeds.proofs.on_side.Statement.{statement}
+use Rattle.seeds.proofs.on_side.Tie as tie
 
 try-seed-requires : tie.Need-try-seed-requires
 try-seed-requires c κs = tt

@@ -1,7 +1,7 @@
-use Rattle.avoid.proofs.Steps.{only-starboard, only-port}
+use Rattle.seeds.proofs.Steps.{only-starboard, only-port}
 use borrow.Author.Needs.{needs}
-use Rattle.avoid.proofs.only.Statement.{statement}
-use Rattle.avoid.proofs.only.Tie as tie
+use Rattle.seeds.proofs.only.Statement.{statement}
+use Rattle.seeds.proofs.only.Tie as tie
 
 enum-told : tie.Need-enum-told
 enum-told c = search needs

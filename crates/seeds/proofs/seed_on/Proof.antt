@@ -1,7 +1,7 @@
-use Rattle.avoid.proofs.Steps.{seeded}
+use Rattle.seeds.proofs.Steps.{seeded}
 use borrow.Author.Needs.{needs}
-use Rattle.avoid.proofs.seed_on.Statement.{statement}
-use Rattle.avoid.proofs.seed_on.Tie as tie
+use Rattle.seeds.proofs.seed_on.Statement.{statement}
+use Rattle.seeds.proofs.seed_on.Tie as tie
 
 enum-told : tie.Need-enum-told
 enum-told c = search needs

@@ -1,7 +1,7 @@
-use Rattle.avoid.proofs.Steps.{no-courses}
+use Rattle.seeds.proofs.Steps.{no-courses}
 use borrow.Author.Needs.{needs}
-use Rattle.avoid.proofs.courses_in.Statement.{statement}
-use Rattle.avoid.proofs.courses_in.Tie as tie
+use Rattle.seeds.proofs.courses_in.Statement.{statement}
+use Rattle.seeds.proofs.courses_in.Tie as tie
 
 enum-known-answer : tie.Need-enum-known-answer
 enum-known-answer c = search needs

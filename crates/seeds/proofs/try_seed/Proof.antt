@@ -1,7 +1,7 @@
-use Rattle.avoid.proofs.Steps.{tries-seed}
+use Rattle.seeds.proofs.Steps.{tries-seed}
 use borrow.Author.Needs.{needs}
-use Rattle.avoid.proofs.try_seed.Statement.{statement}
-use Rattle.avoid.proofs.try_seed.Tie as tie
+use Rattle.seeds.proofs.try_seed.Statement.{statement}
+use Rattle.seeds.proofs.try_seed.Tie as tie
 
 enum-told : tie.Need-enum-told
 enum-told c = search needs

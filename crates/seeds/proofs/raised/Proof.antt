@@ -1,6 +1,6 @@
-use Rattle.avoid.proofs.Steps.{is-raised, is-kept}
-use Rattle.avoid.proofs.raised.Statement.{statement}
-use Rattle.avoid.proofs.raised.Tie as tie
+use Rattle.seeds.proofs.Steps.{is-raised, is-kept}
+use Rattle.seeds.proofs.raised.Statement.{statement}
+use Rattle.seeds.proofs.raised.Tie as tie
 
 returns : tie.Need-returns
 returns c = is-raised _ _ (c .if1 .taken)

@@ -1,7 +1,7 @@
 use mathlib.Core.Path.{ap}
-use Rattle.avoid.proofs.Steps.{both-sides}
-use Rattle.avoid.proofs.seeded_choice.Statement.{statement}
-use Rattle.avoid.proofs.seeded_choice.Tie as tie
+use Rattle.seeds.proofs.Steps.{both-sides}
+use Rattle.seeds.proofs.seeded_choice.Statement.{statement}
+use Rattle.seeds.proofs.seeded_choice.Tie as tie
 
 sides-requires : tie.Need-sides-requires
 sides-requires c κs = tt

@@ -1,7 +1,7 @@
-use Rattle.avoid.proofs.Steps.{no-starboard, no-port, port-smaller, port-not-smaller}
+use Rattle.seeds.proofs.Steps.{no-starboard, no-port, port-smaller, port-not-smaller}
 use borrow.Author.Needs.{needs}
-use Rattle.avoid.proofs.smaller_of.Statement.{statement}
-use Rattle.avoid.proofs.smaller_of.Tie as tie
+use Rattle.seeds.proofs.smaller_of.Statement.{statement}
+use Rattle.seeds.proofs.smaller_of.Tie as tie
 
 enum-told : tie.Need-enum-told
 enum-told c = search needs

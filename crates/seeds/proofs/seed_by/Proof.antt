@@ -1,6 +1,6 @@
-use Rattle.avoid.proofs.Steps.{on-it, off-it}
-use Rattle.avoid.proofs.seed_by.Statement.{statement}
-use Rattle.avoid.proofs.seed_by.Tie as tie
+use Rattle.seeds.proofs.Steps.{on-it, off-it}
+use Rattle.seeds.proofs.seed_by.Statement.{statement}
+use Rattle.seeds.proofs.seed_by.Tie as tie
 
 signed-requires : tie.Need-signed-requires
 signed-requires c κs = tt
