@@ -1,8 +1,8 @@
 use Rattle.text.specs.Text.{bytes}
 use Rattle.text.proofs.Appending.{then}
 use borrow.Author.Needs.{needs}
-use Rattle.fields.proofs.number.Statement.{statement}
-use Rattle.fields.proofs.number.Tie as tie
+use Rattle.number_fields.proofs.number.Statement.{statement}
+use Rattle.number_fields.proofs.number.Tie as tie
 
 number-requires : tie.Need-number-requires
 number-requires c κs = search needs

@@ -1,8 +1,8 @@
 use Rattle.text.specs.Text.{bytes}
 use Rattle.text.proofs.Appending.{then}
 use borrow.Author.Needs.{needs}
-use Rattle.fields.proofs.quantity.Statement.{statement}
-use Rattle.fields.proofs.quantity.Tie as tie
+use Rattle.number_fields.proofs.quantity.Statement.{statement}
+use Rattle.number_fields.proofs.quantity.Tie as tie
 
 thousandths-requires : tie.Need-thousandths-requires
 thousandths-requires c κs = search needs
