@@ -1,8 +1,8 @@
 use mathlib.Core.Path.{refl}
-use Rattle.exports_motion.specs.Words.{passed}
+use Rattle.motion_words.specs.Words.{passed}
 use borrow.Author.Needs.{needs}
-use Rattle.exports_motion.proofs.passed.Statement.{statement}
-use Rattle.exports_motion.proofs.passed.Tie as tie
+use Rattle.motion_words.proofs.passed.Statement.{statement}
+use Rattle.motion_words.proofs.passed.Tie as tie
 
 pattern-requires : tie.Need-pattern-requires
 pattern-requires c κs = search needs

@@ -1,8 +1,8 @@
 use mathlib.Core.Path.{sym, ap, _∙_}
-use Rattle.exports_motion.specs.Words.{bowWords}
+use Rattle.motion_words.specs.Words.{bearingWords}
 use borrow.Author.Needs.{needs}
-use Rattle.exports_motion.proofs.bow_words.Statement.{statement}
-use Rattle.exports_motion.proofs.bow_words.Tie as tie
+use Rattle.motion_words.proofs.bearing_words.Statement.{statement}
+use Rattle.motion_words.proofs.bearing_words.Tie as tie
 
 enum-known-answer : tie.Need-enum-known-answer
 enum-known-answer c = search needs
@@ -17,13 +17,13 @@ refused-requires : tie.Need-refused-requires
 refused-requires c κs = search needs
 
 returns : tie.Need-returns
-returns c = c .value .ensures ∙ ap bowWords (sym (c .before .before .answer .given .1))
+returns c = c .value .ensures ∙ ap bearingWords (sym (c .before .before .answer .given .1))
 
 returns-2 : tie.Need-returns-2
-returns-2 c = c .refused .ensures ∙ ap bowWords (sym (c .before .before .answer2 .given .1))
+returns-2 c = c .refused .ensures ∙ ap bearingWords (sym (c .before .before .answer2 .given .1))
 
-pub bow-words-spec : {M : Type 1} → statement M
-bow-words-spec =
+pub bearing-words-spec : {M : Type 1} → statement M
+bearing-words-spec =
     tie.close
     (tie.spec
     enum-known-answer

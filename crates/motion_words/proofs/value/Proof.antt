@@ -1,8 +1,8 @@
 use mathlib.Core.Path.{refl}
-use Rattle.exports_motion.specs.Words.{value}
+use Rattle.motion_words.specs.Words.{value}
 use borrow.Author.Needs.{needs}
-use Rattle.exports_motion.proofs.value.Statement.{statement}
-use Rattle.exports_motion.proofs.value.Tie as tie
+use Rattle.motion_words.proofs.value.Statement.{statement}
+use Rattle.motion_words.proofs.value.Tie as tie
 
 pattern-requires : tie.Need-pattern-requires
 pattern-requires c κs = search needs

@@ -1,8 +1,8 @@
 use mathlib.Core.Path.{sym, ap, _∙_}
-use Rattle.exports_motion.specs.Words.{passingWords}
+use Rattle.motion_words.specs.Words.{passingWords}
 use borrow.Author.Needs.{needs}
-use Rattle.exports_motion.proofs.passing_words.Statement.{statement}
-use Rattle.exports_motion.proofs.passing_words.Tie as tie
+use Rattle.motion_words.proofs.passing_words.Statement.{statement}
+use Rattle.motion_words.proofs.passing_words.Tie as tie
 
 enum-known-answer : tie.Need-enum-known-answer
 enum-known-answer c = search needs

@@ -1,8 +1,8 @@
 use mathlib.Core.Path.{sym, ap, _∙_}
-use Rattle.exports_motion.specs.Words.{passWords}
+use Rattle.motion_words.specs.Words.{passWords}
 use borrow.Author.Needs.{needs}
-use Rattle.exports_motion.proofs.pass_words.Statement.{statement}
-use Rattle.exports_motion.proofs.pass_words.Tie as tie
+use Rattle.motion_words.proofs.pass_words.Statement.{statement}
+use Rattle.motion_words.proofs.pass_words.Tie as tie
 
 enum-known-p : tie.Need-enum-known-p
 enum-known-p c = search needs

@@ -1,8 +1,8 @@
 use mathlib.Core.Path.{sym, ap, _∙_}
-use Rattle.exports_motion.specs.Words.{approachWords}
+use Rattle.motion_words.specs.Words.{approachWords}
 use borrow.Author.Needs.{needs}
-use Rattle.exports_motion.proofs.approach_words.Statement.{statement}
-use Rattle.exports_motion.proofs.approach_words.Tie as tie
+use Rattle.motion_words.proofs.approach_words.Statement.{statement}
+use Rattle.motion_words.proofs.approach_words.Tie as tie
 
 enum-known-a : tie.Need-enum-known-a
 enum-known-a c = search needs
