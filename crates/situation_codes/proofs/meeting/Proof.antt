@@ -1,8 +1,8 @@
 use mathlib.Core.Path.{refl}
-use Rattle.exports_ruling.specs.Words.{contact, meeting}
+use Rattle.situation_codes.specs.Codes.{contact, meeting}
 use borrow.Author.Needs.{needs}
-use Rattle.exports_ruling.proofs.meeting.Statement.{statement}
-use Rattle.exports_ruling.proofs.meeting.Tie as tie
+use Rattle.situation_codes.proofs.meeting.Statement.{statement}
+use Rattle.situation_codes.proofs.meeting.Tie as tie
 
 visibility-requires : tie.Need-visibility-requires
 visibility-requires c κs = search needs

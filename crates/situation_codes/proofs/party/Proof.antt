@@ -1,9 +1,9 @@
 use mathlib.Core.Path.{refl}
 use borrow.Author.Tests.{eq-eqb, ne-eqb}
-use Rattle.exports_ruling.specs.Words.{vessel, party}
+use Rattle.situation_codes.specs.Codes.{vessel, party}
 use borrow.Author.Needs.{needs}
-use Rattle.exports_ruling.proofs.party.Statement.{statement}
-use Rattle.exports_ruling.proofs.party.Tie as tie
+use Rattle.situation_codes.proofs.party.Statement.{statement}
+use Rattle.situation_codes.proofs.party.Tie as tie
 
 category-requires : tie.Need-category-requires
 category-requires c κs = search needs

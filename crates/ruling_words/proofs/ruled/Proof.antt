@@ -1,8 +1,8 @@
 use mathlib.Core.Path.{refl}
-use Rattle.exports_ruling.specs.Words.{ruled}
+use Rattle.ruling_words.specs.Words.{ruled}
 use borrow.Author.Needs.{needs}
-use Rattle.exports_ruling.proofs.ruled.Statement.{statement}
-use Rattle.exports_ruling.proofs.ruled.Tie as tie
+use Rattle.ruling_words.proofs.ruled.Statement.{statement}
+use Rattle.ruling_words.proofs.ruled.Tie as tie
 
 encounter-code-requires : tie.Need-encounter-code-requires
 encounter-code-requires c κs = search needs

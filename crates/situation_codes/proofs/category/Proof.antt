@@ -1,8 +1,8 @@
 use borrow.Author.Tests.{eq-eqb, ne-eqb}
 use mathlib.Core.Path.{refl}
-use Rattle.exports_ruling.specs.Words.{category}
-use Rattle.exports_ruling.proofs.category.Statement.{statement}
-use Rattle.exports_ruling.proofs.category.Tie as tie
+use Rattle.situation_codes.specs.Codes.{category}
+use Rattle.situation_codes.proofs.category.Statement.{statement}
+use Rattle.situation_codes.proofs.category.Tie as tie
 
 returns : tie.Need-returns
 unfolding category

@@ -1,8 +1,8 @@
 use borrow.Author.Tests.{eq-eqb, ne-eqb}
 use mathlib.Core.Path.{refl}
-use Rattle.exports_ruling.specs.Words.{word}
-use Rattle.exports_ruling.proofs.word.Statement.{statement}
-use Rattle.exports_ruling.proofs.word.Tie as tie
+use Rattle.ruling_words.specs.Words.{word}
+use Rattle.ruling_words.proofs.word.Statement.{statement}
+use Rattle.ruling_words.proofs.word.Tie as tie
 
 returns : tie.Need-returns
 unfolding word

@@ -1,8 +1,8 @@
 use mathlib.Core.Path.{refl}
-use Rattle.exports_ruling.specs.Words.{refused}
+use Rattle.ruling_words.specs.Words.{refused}
 use borrow.Author.Needs.{needs}
-use Rattle.exports_ruling.proofs.refused.Statement.{statement}
-use Rattle.exports_ruling.proofs.refused.Tie as tie
+use Rattle.ruling_words.proofs.refused.Statement.{statement}
+use Rattle.ruling_words.proofs.refused.Tie as tie
 
 number-requires : tie.Need-number-requires
 number-requires c κs = search needs

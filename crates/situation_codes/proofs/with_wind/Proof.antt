@@ -1,9 +1,9 @@
 use borrow.Author.Tests.{eq-eqb, ne-eqb}
 use mathlib.Core.Path.{refl}
-use Rattle.exports_ruling.specs.Words.{withWind}
+use Rattle.situation_codes.specs.Codes.{withWind}
 use borrow.Author.Needs.{needs}
-use Rattle.exports_ruling.proofs.with_wind.Statement.{statement}
-use Rattle.exports_ruling.proofs.with_wind.Tie as tie
+use Rattle.situation_codes.proofs.with_wind.Statement.{statement}
+use Rattle.situation_codes.proofs.with_wind.Tie as tie
 
 returns : tie.Need-returns
 unfolding withWind

@@ -1,8 +1,8 @@
 use mathlib.Core.Path.{sym, ap, _∙_}
-use Rattle.exports_ruling.specs.Words.{rulingWords}
+use Rattle.ruling_words.specs.Words.{rulingWords}
 use borrow.Author.Needs.{needs}
-use Rattle.exports_ruling.proofs.ruling_words.Statement.{statement}
-use Rattle.exports_ruling.proofs.ruling_words.Tie as tie
+use Rattle.ruling_words.proofs.ruling_words.Statement.{statement}
+use Rattle.ruling_words.proofs.ruling_words.Tie as tie
 
 enum-known-answer : tie.Need-enum-known-answer
 enum-known-answer c = search needs

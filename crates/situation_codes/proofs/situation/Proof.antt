@@ -1,8 +1,8 @@
 use mathlib.Core.Path.{refl}
-use Rattle.exports_ruling.specs.Words.{situation}
+use Rattle.situation_codes.specs.Codes.{situation}
 use borrow.Author.Needs.{needs}
-use Rattle.exports_ruling.proofs.situation.Statement.{statement}
-use Rattle.exports_ruling.proofs.situation.Tie as tie
+use Rattle.situation_codes.proofs.situation.Statement.{statement}
+use Rattle.situation_codes.proofs.situation.Tie as tie
 
 party-requires : tie.Need-party-requires
 party-requires c κs = search needs

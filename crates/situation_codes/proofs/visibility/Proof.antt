@@ -1,8 +1,8 @@
 use borrow.Author.Tests.{eq-eqb, ne-eqb}
 use mathlib.Core.Path.{refl}
-use Rattle.exports_ruling.specs.Words.{visibility}
-use Rattle.exports_ruling.proofs.visibility.Statement.{statement}
-use Rattle.exports_ruling.proofs.visibility.Tie as tie
+use Rattle.situation_codes.specs.Codes.{visibility}
+use Rattle.situation_codes.proofs.visibility.Statement.{statement}
+use Rattle.situation_codes.proofs.visibility.Tie as tie
 
 returns : tie.Need-returns
 unfolding visibility
