@@ -52,8 +52,8 @@ use Rattle.motion_laws.proofs.Sizes.{all-good}
 use Rattle.choice_laws.specs.Fit.{FitVessel, FitTarget, FitTargets}
 use Rattle.choice_laws.proofs.Accepting.{good-front, good-back, limits-fit}
 use Rattle.choice_laws.proofs.Searched.{trial-small, same-first, same-trial}
-use Rattle.avoid.specs.declared.Seed.{Seed}
-use Rattle.avoid.specs.declared.Seed.the-variants as Seed
+use Rattle.seeds.specs.declared.Seed.{Seed}
+use Rattle.seeds.specs.declared.Seed.the-variants as Seed
 use Rattle.avoid.specs.declared.ManoeuvreAnswer.{ManoeuvreAnswer}
 use Rattle.avoid.specs.declared.ManoeuvreAnswer.the-variants.{Of, Refused}
 use Rattle.avoid.specs.Avoid.{coursesIn, raised, seedBy, seedOn, seedChoice, seededSide, seededChoice, answered, targetOf, avoided, avoidedAs, avoidChecks, avoidBy, avoidAnswer}

@@ -1,3 +1,2 @@
 -- What the exports of avoidance owe.
-pub mod Filling
 pub mod Made

@@ -1,17 +1,12 @@
--- Constraints that are made with a rate of turn, and the ruled search with constraints that were made.
-use mathlib.Core.Path.{_≡_, refl, sym, ap, _∙_}
-use mathlib.Core.Bool.{true, false, cond}
+-- The ruled search with constraints that were made.
+use mathlib.Core.Path.{_≡_, sym, ap, _∙_}
+use mathlib.Core.Bool.{true}
 use mathlib.Core.List.{List}
 use Prim.Native.Nat.{ℕ, _/_, _%_}
-use lib.Dec.{eqb}
 use lib.Ieee.{Float}
-use Rattle.elementary.specs.declared.error.Refusal.{Refusal}
-use Rattle.manoeuvre.specs.declared.constraints.PermittedSides.{PermittedSides}
 use Rattle.manoeuvre.specs.declared.constraints.ManoeuvreConstraints.{ManoeuvreConstraints}
 use Rattle.manoeuvre.specs.declared.constraints.ConstraintsAnswer.{ConstraintsAnswer}
 use Rattle.manoeuvre.specs.declared.constraints.ConstraintsAnswer.the-variants as Constraints
-use Rattle.manoeuvre.specs.Constraints.{constraintsAnswer, withRateOfTurn}
-use Rattle.motion.specs.declared.units.Distance.{Distance}
 use Rattle.situation.specs.declared.party.Party.{Party}
 use Rattle.situation.specs.declared.party.Perhaps.{Perhaps}
 use Rattle.situation.specs.declared.party.Visibility.{Visibility}
@@ -19,20 +14,8 @@ use Rattle.traffic.specs.declared.Entry.{Entry}
 use Rattle.rulings.specs.declared.RuledAnswer.{RuledAnswer}
 use Rattle.rulings.specs.Ruled.{ruledAnswer}
 use Rattle.codes.specs.Codes as Codes
-use Rattle.exports_avoidance.specs.Words.{permittedSides, withRate, constraintsOf, at, entries, ruledWords, ruledWith}
+use Rattle.exports_avoidance.specs.Words.{at, entries, ruledWords, ruledWith}
 
-module _ (sides : ℕ) (least most : Float) (known : ℕ) (rate : Float) (p : PermittedSides) (made : ConstraintsAnswer) where
-  of : p ≡ permittedSides sides → made ≡ constraintsAnswer p (record { 0 = least }) (record { 0 = most }) → eqb known 0 ≡ false → withRate made rate ≡ constraintsOf sides least most known rate
-  unfolding constraintsOf
-  of ep em h = ap (λ a. withRate a rate) (em ∙ ap (λ p. constraintsAnswer p (record { 0 = least }) (record { 0 = most })) ep) ∙ ap (λ b. cond b (constraintsAnswer (permittedSides sides) (record { 0 = least }) (record { 0 = most })) (withRate (constraintsAnswer (permittedSides sides) (record { 0 = least }) (record { 0 = most })) rate)) (sym h)
-
-  pub by-rate : (c : ManoeuvreConstraints) (r : ConstraintsAnswer) → p ≡ permittedSides sides → made ≡ constraintsAnswer p (record { 0 = least }) (record { 0 = most }) → eqb known 0 ≡ false → made ≡ Constraints.Of c → r ≡ withRateOfTurn c (record { 0 = rate }) → r ≡ constraintsOf sides least most known rate
-  by-rate c r ep em h e er = er ∙ ap (λ a. withRate a rate) (sym e) ∙ of ep em h
-
-  pub not-made : (why : Refusal) → p ≡ permittedSides sides → made ≡ constraintsAnswer p (record { 0 = least }) (record { 0 = most }) → eqb known 0 ≡ false → made ≡ Constraints.Refused why → Constraints.Refused why ≡ constraintsOf sides least most known rate
-  not-made why ep em h e = ap (λ a. withRate a rate) (sym e) ∙ of ep em h
-
--- ---- the ruled search
 module _ (codes count : ℕ) (floats : List Float) (a : ConstraintsAnswer) (c : ManoeuvreConstraints) (is : a ≡ Constraints.Of c) where
   pub own-is : (own : Party) (f g h : Float) → own ≡ Codes.party (codes % 8) (codes / 16 % 2) f g h → f ≡ at floats 0 → g ≡ at floats 1 → h ≡ at floats 2 → own ≡ Codes.party (codes % 8) (codes / 16 % 2) (at floats 0) (at floats 1) (at floats 2)
   own-is own f g h e ef eg eh = e ∙ ap (λ f. Codes.party (codes % 8) (codes / 16 % 2) f g h) ef ∙ ap (λ g. Codes.party (codes % 8) (codes / 16 % 2) (at floats 0) g h) eg ∙ ap (λ h. Codes.party (codes % 8) (codes / 16 % 2) (at floats 0) (at floats 1) h) eh

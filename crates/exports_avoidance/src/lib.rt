@@ -4,78 +4,24 @@
 // the limiting contact's place and one, 0 for nobody. Floats are bit patterns.
 ghost use mathlib.Core.Path.{_≡_};
 ghost use lib.ListN.{getD};
-ghost use Prim.Native.Nat.{_+_, _*_, _<_, _≤_};
-ghost use Rattle.traffic.specs.Traffic as Around;
 ghost use Rattle.exports_avoidance.specs.Words as Spec;
 use avoid::ManoeuvreAnswer;
+use avoidance_codes::constraints_of;
+use avoidance_codes::permitted_sides;
+use avoidance_codes::traffic_of;
+use avoidance_words::limiting_word;
+use avoidance_words::side_word;
+use avoidance_words::turned;
 use choice::Choice;
-use choice::Chosen;
 use choice::Sides;
-use clearing::MAX_CONTACTS;
 use elementary::error::Refusal;
-use manoeuvre::answer::AvoidanceManoeuvre;
-use manoeuvre::answer::Limiting;
-use manoeuvre::answer::Side;
-use manoeuvre::answer::TurnTime;
 use manoeuvre::constraints::ConstraintsAnswer;
-use manoeuvre::constraints::ManoeuvreConstraints;
-use manoeuvre::constraints::PermittedSides;
-use motion::units::Angle;
 use motion::units::Distance;
-use motion::units::RateOfTurn;
 use rulings::RuledAnswer;
-use rulings::RuledManoeuvre;
-use situation::party::Party;
-use traffic::Entry;
 use traffic::Traffic;
 use words::pattern;
 
 // ---- answers as words
-fn side_word(side: Side) -> u64
-    ensures { λ r. ⌜ r ≡ Spec.sideWord side ⌝ }
-{
-    match side {
-        Side::Starboard => 0,
-        Side::Port => 1,
-    }
-}
-
-fn limiting_word(limiting: Limiting) -> u64
-    ensures { λ r. ⌜ r ≡ Spec.limitingWord limiting ⌝ }
-{
-    match limiting {
-        Limiting::Nobody => 0,
-        Limiting::Contact(place) => (place % 64) as u64 + 1,
-    }
-}
-
-// Side, size, course, passing distance and limiting contact are words already.
-fn turned(
-    side: u64,
-    size: u64,
-    course: u64,
-    passing: u64,
-    time: TurnTime,
-    limiting: u64,
-) -> [u64; 9]
-    ensures { λ r. ⌜ r ≡ Spec.turned side size course passing time limiting ⌝ }
-{
-    match time {
-        TurnTime::Nothing => [0, side, size, course, passing, 0, 0, 0, limiting],
-        TurnTime::Of(d) => [
-            0,
-            side,
-            size,
-            course,
-            passing,
-            1,
-            d.secs,
-            d.nanos as u64,
-            limiting,
-        ],
-    }
-}
-
 fn refused(why: Refusal) -> [u64; 9]
     ensures { λ r. ⌜ r ≡ Spec.refused why ⌝ }
 {
@@ -147,84 +93,6 @@ fn search_words(choice: Choice) -> [u64; 9]
             ]
         }
     }
-}
-
-// ---- arguments
-// 0 either side, 1 starboard, 2 port.
-fn permitted_sides(code: u32) -> PermittedSides
-    ensures { λ r. ⌜ r ≡ Spec.permittedSides code ⌝ }
-{
-    if code == 0 {
-        return PermittedSides::Either;
-    }
-    if code == 1 {
-        return PermittedSides::Starboard;
-    }
-    PermittedSides::Port
-}
-
-fn constraints_of(sides: u32, least: f64, most: f64, known: u32, rate: f64) -> ConstraintsAnswer
-    ensures { λ r. ⌜ r ≡ Spec.constraintsOf sides least most known rate ⌝ }
-{
-    let made = ManoeuvreConstraints::new(permitted_sides(sides), Angle(least), Angle(most));
-    if known == 0 {
-        return made;
-    }
-    match made {
-        ConstraintsAnswer::Of(c) => c.with_rate_of_turn(RateOfTurn(rate)),
-        ConstraintsAnswer::Refused(why) => ConstraintsAnswer::Refused(why),
-    }
-}
-
-// Bearing, range, course, speed, heading, and a code: the category, and 8 more where the heading is known.
-fn entry_at(floats: &[f64], at: usize) -> Entry
-    requires { ⌜ at < 1000 ⌝ }
-    ensures { λ r. ⌜ r ≡ Spec.entryAt (now (floats .entry)) at ⌝ }
-{
-    let code = math::to_usize(codes::float_at(floats, at + 5)) % 16;
-    let contact = words::contact(codes::float_at(floats, at), codes::float_at(floats, at + 1));
-    let target = codes::party(
-        (code % 8) as u32,
-        (code / 8) as u32,
-        codes::float_at(floats, at + 2),
-        codes::float_at(floats, at + 3),
-        codes::float_at(floats, at + 4),
-    );
-    Entry {
-        contact: contact,
-        target: target,
-    }
-}
-
-// Where a contact's floats begin: after eight of six each, or after five of four each.
-fn place_of(wide: bool, i: usize) -> usize
-    requires { ⌜ i < 100 ⌝ }
-    ensures { λ r. ⌜ r ≡ Spec.placeOf wide i ⌝ }
-{
-    if wide {
-        return 8 + 6 * i;
-    }
-    5 + 4 * i
-}
-
-fn traffic_of(wide: bool, count: usize, floats: &[f64]) -> Traffic
-    ensures counted { λ r. ⌜ r .count ≡ count ⌝ }
-    ensures listed { λ r. ⌜ Around.contacts r ≡ Spec.entries wide (now (floats .entry)) count ⌝ }
-{
-    let n = clearing::held(count);
-    let nobody = entry_at(floats, 0);
-    let mut t = Traffic {
-        count: 0,
-        list: [nobody; MAX_CONTACTS],
-    };
-    let mut i: usize = 0;
-    while i < n {
-        let e = entry_at(floats, place_of(wide, i));
-        t.list[i] = e;
-        i += 1;
-    }
-    t.count = count;
-    t
 }
 
 // ---- the exports

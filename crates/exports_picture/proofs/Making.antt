@@ -8,7 +8,7 @@ use Rattle.clearing.specs.Clearing.{maxContacts}
 use Rattle.policy.specs.declared.CpaPolicy.{CpaPolicy}
 use Rattle.assessment.specs.declared.assess.AssessAnswer.{AssessAnswer}
 use Rattle.assessment.specs.declared.assess.CollisionAssessment.{CollisionAssessment}
-use Rattle.picture.specs.declared.TargetAssessment.{TargetAssessment}
+use Rattle.targets.specs.declared.TargetAssessment.{TargetAssessment}
 use Rattle.exports_picture.specs.Words.{entryOf, withAnswer, assessAt, after, pictured}
 
 module _ (floats : List Float) (policy : CpaPolicy) (start : List TargetAssessment) where

@@ -16,9 +16,9 @@ use Rattle.assessment.specs.declared.assess.AssessAnswer.{AssessAnswer}
 use Rattle.assessment.specs.declared.assess.AssessAnswer.the-variants as Assess
 use Rattle.assessment.specs.declared.assess.CollisionAssessment.{CollisionAssessment}
 use Rattle.assessment.specs.Assess.{assessAnswer}
-use Rattle.picture.specs.declared.TargetAssessment.{TargetAssessment}
-use Rattle.picture.specs.declared.PerhapsTarget.{PerhapsTarget}
-use Rattle.picture.specs.declared.PerhapsTarget.the-variants.{Nothing, Of}
+use Rattle.targets.specs.declared.TargetAssessment.{TargetAssessment}
+use Rattle.targets.specs.declared.PerhapsTarget.{PerhapsTarget}
+use Rattle.targets.specs.declared.PerhapsTarget.the-variants.{Nothing, Of}
 use Rattle.picture.specs.Picture.{pushed, found, mostDangerous, atLeast}
 use Rattle.codes.specs.Codes as Codes
 use Rattle.words.specs.Words.{pattern, vessel, contact}

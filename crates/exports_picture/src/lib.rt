@@ -9,11 +9,11 @@ use assessment::assess::CollisionAssessment;
 use motion::units::Distance;
 use motion::vessel::Vessel;
 use picture::CollisionPicture;
-use picture::PerhapsTarget;
-use picture::TargetAssessment;
 use policy::CpaPolicy;
 use policy::PolicyAnswer;
 use risk::CollisionRisk;
+use targets::PerhapsTarget;
+use targets::TargetAssessment;
 use time::Duration;
 
 fn entry_of(place: usize, a: CollisionAssessment) -> TargetAssessment

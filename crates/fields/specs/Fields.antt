@@ -1,18 +1,14 @@
 -- The fields of a contact's line, after document 01, 'Encounter sheet and its program': 'Fields: id, approach, CPA (range if OPENING or STATIONARY), whole seconds to CPA rounded down (`-` if none), risk (others: OPENING, PASSING, DEVELOPING)', after DANGEROUS, and 'Three decimals, nearest, ties to even.'
 use mathlib.Core.List.{List}
 use Prim.Native.Nat.{ℕ}
-use lib.Ieee.{Float}
-use Rattle.decimal.specs.Thousandths.{thousandthsOf}
 use Rattle.text.specs.Text.{bytes}
-use Rattle.text.specs.Decimal.{decimalOf, threeDecimals}
+use Rattle.text.specs.Decimal.{decimalOf}
 use Rattle.motion.specs.declared.units.Distance.{Distance}
 use Rattle.relative_motion.specs.declared.approach.Approach.{Approach}
 use Rattle.relative_motion.specs.declared.approach.Approach.the-variants as Approach
 use Rattle.risk.specs.declared.CollisionRisk.{CollisionRisk}
 use Rattle.risk.specs.declared.CollisionRisk.the-variants as Risk
-
-abbrev pub quantityField : Float → List ℕ
-quantityField x = threeDecimals (thousandthsOf x)
+pub use Rattle.number_fields.specs.Fields.{quantityField}
 
 abbrev pub approachField : Approach → List ℕ
 approachField (Approach.Closing cpa) = bytes "CLOSING"

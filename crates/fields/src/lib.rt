@@ -1,27 +1,14 @@
-// The fields of a line that are numbers, the approach and the risk, each appended with the space that follows it.
+// The fields of a line that say the approach and the risk, each appended with the space that follows it.
 ghost use mathlib.Core.Path.{_≡_};
 ghost use Rattle.text.specs.Text.{shown, appended};
-ghost use Rattle.text.specs.Decimal.{decimalOf};
 ghost use Rattle.text.specs.Line.{spaced};
 ghost use Rattle.fields.specs.Fields as Spec;
 use motion::units::Distance;
+pub use number_fields::number;
+pub use number_fields::quantity;
 use relative_motion::approach::Approach;
 use risk::CollisionRisk;
 use text::Text;
-
-// A whole number.
-pub fn number(t: Text, n: u64) -> Text
-    ensures { λ r. ⌜ shown r ≡ appended (shown t) (spaced (decimalOf n)) ⌝ }
-{
-    t.number(n).byte(b' ')
-}
-
-// A quantity, with three decimals.
-pub fn quantity(t: Text, x: f64) -> Text
-    ensures { λ r. ⌜ shown r ≡ appended (shown t) (spaced (Spec.quantityField x)) ⌝ }
-{
-    t.thousandths(decimal::thousandths(x)).byte(b' ')
-}
 
 // How the range goes.
 pub fn approach(t: Text, a: Approach) -> Text

@@ -1,3 +1,2 @@
 -- What the code of the picture owes.
 pub mod Loops
-pub mod Ranks

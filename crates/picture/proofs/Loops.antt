@@ -14,9 +14,9 @@ use Rattle.laws.proofs.Bools.{refuted}
 use Rattle.clearing.specs.Clearing.{maxContacts}
 use Rattle.clearing.proofs.Loop.{take-held}
 use Rattle.risk.specs.declared.CollisionRisk.{CollisionRisk}
-use Rattle.picture.specs.declared.TargetAssessment.{TargetAssessment}
-use Rattle.picture.specs.declared.PerhapsTarget.{PerhapsTarget}
-use Rattle.picture.specs.declared.PerhapsTarget.the-variants.{Nothing, Of}
+use Rattle.targets.specs.declared.TargetAssessment.{TargetAssessment}
+use Rattle.targets.specs.declared.PerhapsTarget.{PerhapsTarget}
+use Rattle.targets.specs.declared.PerhapsTarget.the-variants.{Nothing, Of}
 use Rattle.picture.specs.Picture.{pushed, isAtLeast, pushedIf, atLeast}
 
 -- ---- the targets: a count beyond the room is cut at it

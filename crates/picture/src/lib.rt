@@ -4,93 +4,18 @@ ghost use mathlib.Core.List.{[], _∷_};
 ghost use lib.Dec.{eqb};
 ghost use lib.ListN.{length};
 ghost use Rattle.picture.specs.Picture as Spec;
-use assessment::assess::CollisionAssessment;
-use assessment::assess::PerhapsTime;
 use clearing::MAX_CONTACTS;
 use risk::CollisionRisk;
-use time::Duration;
-
-// An assessment, and the number by which its target is known.
-pub struct TargetAssessment {
-    pub target: u32,
-    pub assessment: CollisionAssessment,
-}
+use targets::PerhapsTarget;
+use targets::TargetAssessment;
+use targets::is_at_least;
+use targets::keep;
+use targets::or_this;
 
 // The first `count` of the list, in the order in which they were listed.
 pub struct CollisionPicture {
     pub count: usize,
     pub list: [TargetAssessment; MAX_CONTACTS],
-}
-
-pub enum PerhapsTarget {
-    Nothing,
-    Of(TargetAssessment),
-}
-
-// The time to go, the longest one where the range does not close.
-fn time_of(p: PerhapsTime) -> Duration
-    ensures { λ r. ⌜ r ≡ Spec.timeOf p ⌝ }
-{
-    match p {
-        PerhapsTime::Nothing => Duration {
-            secs: 18446744073709551615,
-            nanos: 999999999,
-        },
-        PerhapsTime::Of(d) => d,
-    }
-}
-
-// Whether one is more dangerous than another: a higher risk, or the same and less time.
-fn outranks(a: CollisionAssessment, b: CollisionAssessment) -> bool
-    ensures { λ r. ⌜ r ≡ Spec.outranks a b ⌝ }
-{
-    let first = a.risk();
-    let second = b.risk();
-    let rank = first.rank();
-    let other = second.rank();
-    if rank == other {
-        let time = time_of(a.tcpa());
-        return time.is_before(time_of(b.tcpa()));
-    }
-    other < rank
-}
-
-fn keep(best: PerhapsTarget, e: TargetAssessment) -> PerhapsTarget
-    ensures { λ r. ⌜ r ≡ Spec.keep best e ⌝ }
-{
-    match best {
-        PerhapsTarget::Nothing => PerhapsTarget::Of(e),
-        PerhapsTarget::Of(b) => {
-            let held = b.assessment;
-            let next = e.assessment;
-            if outranks(held, next) {
-                return PerhapsTarget::Of(b);
-            }
-            PerhapsTarget::Of(e)
-        }
-    }
-}
-
-fn or_this(found: PerhapsTarget, target: u32, e: TargetAssessment) -> PerhapsTarget
-    ensures { λ r. ⌜ r ≡ Spec.orThis target found e ⌝ }
-{
-    match found {
-        PerhapsTarget::Of(t) => PerhapsTarget::Of(t),
-        PerhapsTarget::Nothing => {
-            if e.target == target {
-                return PerhapsTarget::Of(e);
-            }
-            PerhapsTarget::Nothing
-        }
-    }
-}
-
-fn is_at_least(e: TargetAssessment, least: CollisionRisk) -> bool
-    ensures { λ r. ⌜ r ≡ Spec.isAtLeast least e ⌝ }
-{
-    let assessment = e.assessment;
-    let risk = assessment.risk();
-    least.rank() <= risk.rank()
 }
 
 impl CollisionPicture {

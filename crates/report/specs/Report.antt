@@ -3,20 +3,15 @@
 -- The lines are made of what the module's functions answer. A sheet's values are checked before they are asked, so that on an accepted sheet none of them refuses but the ruled search with 5 and 13 (report_laws).
 use mathlib.Core.List.{List, _++_, map}
 use Prim.Native.Nat.{ℕ}
-use lib.ListN.{length, getD}
+use lib.ListN.{length}
 use Rattle.arguments.specs.declared.Verdict.{Verdict}
 use Rattle.arguments.specs.declared.Verdict.the-variants as Verdict
 use Rattle.policy.specs.declared.PolicyAnswer.{PolicyAnswer}
 use Rattle.policy.specs.declared.PolicyAnswer.the-variants as Policy
-use Rattle.policy.specs.Policy.{policyAnswer}
 use Rattle.situation.specs.declared.party.Perhaps.the-variants.{Unknown}
-use Rattle.manoeuvre.specs.declared.answer.Limiting.{Limiting}
-use Rattle.manoeuvre.specs.declared.answer.Limiting.the-variants as Limiting
 use Rattle.manoeuvre.specs.declared.constraints.ManoeuvreConstraints.{ManoeuvreConstraints}
 use Rattle.manoeuvre.specs.declared.constraints.ConstraintsAnswer.{ConstraintsAnswer}
 use Rattle.manoeuvre.specs.declared.constraints.ConstraintsAnswer.the-variants as Constraints
-use Rattle.manoeuvre.specs.declared.constraints.PermittedSides.the-variants.{Either}
-use Rattle.manoeuvre.specs.Constraints.{constraintsAnswer}
 use Rattle.rulings.specs.declared.RuledAnswer.{RuledAnswer}
 use Rattle.rulings.specs.declared.RuledAnswer.the-variants as Ruled
 use Rattle.rulings.specs.Ruled.{ruledAnswer}
@@ -28,28 +23,17 @@ use Rattle.sheet_values.specs.Values.{scaled, visibilityOf, ownOf, entryOf}
 use Rattle.sheet.specs.Sheet.{sheetVerdict}
 use Rattle.lines.specs.Lines.{alterLine, refusedLine}
 use Rattle.contact_lines.specs.Contacts.{contactLines}
+unfoldable pub use Rattle.sheet_limits.specs.Limits.{idAt, policyOn, constraintsOn}
 
 -- ---- the ruled search's answer
 unfoldable pub answerOn : Header → List Row → ManoeuvreConstraints → RuledAnswer
 answerOn h rs c = ruledAnswer (ownOf h) (length rs) (map entryOf rs) (visibilityOf (h .visibility)) Unknown (record { 0 = scaled (h .desired) }) c
-
--- the id of the limiting contact; none is read where there is none
-unfoldable pub idAt : List Row → Limiting → ℕ
-idAt rs Limiting.Nobody = 0
-idAt rs (Limiting.Contact place) = getD (map (λ r. r .id) rs) place 0
 
 abbrev pub answerLine : List Row → RuledAnswer → List ℕ
 answerLine rs (Ruled.Of m) = alterLine m (idAt rs (m .limiting))
 answerLine rs (Ruled.Refused why) = refusedLine why
 
 -- ---- the whole
-unfoldable pub policyOn : Header → PolicyAnswer
-policyOn h = policyAnswer (record { 0 = scaled (h .«cpa_limit») }) (record { secs = h .«tcpa_limit»; nanos = 0 })
-
--- the ruled search takes no sides from its caller
-unfoldable pub constraintsOn : Header → ConstraintsAnswer
-constraintsOn h = constraintsAnswer Either (record { 0 = scaled (h .least) }) (record { 0 = scaled (h .most) })
-
 abbrev pub linesBy : Header → List Row → PolicyAnswer → ConstraintsAnswer → List ℕ
 linesBy h rs (Policy.Of p) (Constraints.Of c) = contactLines (ownOf h) (visibilityOf (h .visibility)) p rs ++ answerLine rs (answerOn h rs c)
 linesBy h rs (Policy.Of p) (Constraints.Refused why) = refusedLine why

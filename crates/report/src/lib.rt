@@ -5,37 +5,19 @@ ghost use Rattle.text.specs.Text.{shown, appended};
 ghost use Rattle.sheet_record.specs.Record as Record;
 ghost use Rattle.report.specs.Report as Spec;
 use arguments::Verdict;
-use manoeuvre::answer::Limiting;
 use manoeuvre::constraints::ConstraintsAnswer;
 use manoeuvre::constraints::ManoeuvreConstraints;
-use manoeuvre::constraints::PermittedSides;
-use motion::units::Angle;
 use motion::units::Distance;
-use policy::CpaPolicy;
 use policy::PolicyAnswer;
 use rulings::RuledAnswer;
+use sheet_limits::constraints_on;
+use sheet_limits::id_at;
+use sheet_limits::policy_on;
 use sheet_record::Header;
 use sheet_record::Rows;
 use sheet_values::scaled;
 use situation::party::Perhaps;
 use text::Text;
-use time::Duration;
-
-// The id of the limiting contact, 0 where there is none.
-fn id_at(rows: Rows, limiting: Limiting) -> u32
-    ensures { λ r. ⌜ r ≡ Spec.idAt (Record.rows rows) limiting ⌝ }
-{
-    match limiting {
-        Limiting::Nobody => 0,
-        Limiting::Contact(place) => {
-            if place < clearing::held(rows.count) {
-                let row = rows.list[place];
-                return row.id;
-            }
-            0
-        }
-    }
-}
 
 // The line on the ruled search's answer.
 fn put_answer(t: Text, rows: Rows, answer: RuledAnswer) -> Text
@@ -60,26 +42,6 @@ fn answer_on(h: Header, rows: Rows, c: ManoeuvreConstraints) -> RuledAnswer
     let visibility = sheet_values::visibility_of(h.visibility);
     let desired = Distance(scaled(h.desired));
     ruled::ruled_search(own, t, visibility, Perhaps::Unknown, desired, c)
-}
-
-// The limits of the assessment.
-fn policy_on(h: Header) -> PolicyAnswer
-    ensures { λ r. ⌜ r ≡ Spec.policyOn h ⌝ }
-{
-    let latest = Duration {
-        secs: h.tcpa_limit as u64,
-        nanos: 0,
-    };
-    CpaPolicy::new(Distance(scaled(h.cpa_limit)), latest)
-}
-
-// The limits of the turn; the ruled search takes no sides from its caller.
-fn constraints_on(h: Header) -> ConstraintsAnswer
-    ensures { λ r. ⌜ r ≡ Spec.constraintsOn h ⌝ }
-{
-    let least = Angle(scaled(h.least));
-    let most = Angle(scaled(h.most));
-    ManoeuvreConstraints::new(PermittedSides::Either, least, most)
 }
 
 // The lines on a sheet that is accepted.

@@ -7,7 +7,7 @@ use lib.Seq.{slice}
 use Rattle.laws.specs.Fold.{fold}
 use Rattle.laws.proofs.Fold.{fold-step, fold-done}
 use Rattle.clearing.proofs.Loop.{fits}
-use Rattle.picture.specs.declared.PerhapsTarget.the-variants.{Nothing}
+use Rattle.targets.specs.declared.PerhapsTarget.the-variants.{Nothing}
 use Rattle.picture.specs.Picture.{targets, keep, mostDangerous}
 use Rattle.picture.proofs.Loops.{folded}
 use borrow.Author.Needs.{needs}

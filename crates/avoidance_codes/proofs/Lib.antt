@@ -1,0 +1,3 @@
+-- What the arguments of avoidance owe.
+pub mod Filling
+pub mod Made

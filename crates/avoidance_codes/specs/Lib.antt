@@ -1,0 +1,2 @@
+-- Arguments of avoidance from codes and floats.
+pub mod Codes

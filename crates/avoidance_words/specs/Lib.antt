@@ -1,0 +1,2 @@
+-- The parts of a manoeuvre as words.
+pub mod Words

@@ -1,0 +1,2 @@
+-- The fields that are quantities.
+pub mod Fields

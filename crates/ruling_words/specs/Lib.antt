@@ -1,0 +1,2 @@
+-- Rulings as words.
+pub mod Words

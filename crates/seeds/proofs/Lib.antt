@@ -1,0 +1,2 @@
+-- What the code of the seeds owes.
+pub mod Steps

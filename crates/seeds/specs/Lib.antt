@@ -1,0 +1,2 @@
+-- The seeds of an avoidance.
+pub mod Seeds

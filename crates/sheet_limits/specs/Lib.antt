@@ -1,0 +1,2 @@
+-- What a sheet asks for.
+pub mod Limits

@@ -1,0 +1,2 @@
+-- Situations from codes.
+pub mod Codes

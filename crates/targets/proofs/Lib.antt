@@ -1,0 +1,2 @@
+-- What the code of the targets owes.
+pub mod Ranks

@@ -1,0 +1,2 @@
+-- What the collision picture asks of its targets.
+pub mod Picture
