@@ -33,9 +33,9 @@ use Rattle.arguments.specs.Check.{verdict, encounterChecks, distanceChecks, isD
 use Rattle.arguments.specs.Check as Check
 use Rattle.motion.specs.declared.vessel.Vessel.{Vessel}
 use Rattle.motion.specs.declared.vessel.Components.{Components}
-use Rattle.course.specs.declared.Best.{Best}
-use Rattle.course.specs.declared.Best.the-variants as Best
-use Rattle.course.specs.declared.Choice.{Choice}
+use Rattle.best_course.specs.declared.Best.{Best}
+use Rattle.best_course.specs.declared.Best.the-variants as Best
+use Rattle.best_course.specs.declared.Choice.{Choice}
 use Rattle.motion.specs.Vessel.{unit, velocity}
 use Rattle.arguments.specs.declared.Verdict.{Verdict}
 use Rattle.arguments.specs.declared.Verdict.the-variants.{Accepted, Refused}

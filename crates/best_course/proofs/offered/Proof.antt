@@ -1,7 +1,7 @@
-use Rattle.course.proofs.Courses.{to-starboard, to-port, to-neither}
+use Rattle.best_course.proofs.Offers.{to-starboard, to-port, to-neither}
 use borrow.Author.Needs.{needs}
-use Rattle.course.proofs.offered.Statement.{statement}
-use Rattle.course.proofs.offered.Tie as tie
+use Rattle.best_course.proofs.offered.Statement.{statement}
+use Rattle.best_course.proofs.offered.Tie as tie
 
 wrap180-requires : tie.Need-wrap180-requires
 wrap180-requires c κs = search needs

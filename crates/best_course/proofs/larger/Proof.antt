@@ -1,7 +1,7 @@
-use Rattle.course.proofs.Courses.{larger-first, larger-new, larger-kept}
+use Rattle.best_course.proofs.Offers.{larger-first, larger-new, larger-kept}
 use borrow.Author.Needs.{needs}
-use Rattle.course.proofs.larger.Statement.{statement}
-use Rattle.course.proofs.larger.Tie as tie
+use Rattle.best_course.proofs.larger.Statement.{statement}
+use Rattle.best_course.proofs.larger.Tie as tie
 
 enum-told : tie.Need-enum-told
 enum-told c = search needs

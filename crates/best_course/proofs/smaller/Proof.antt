@@ -1,7 +1,7 @@
-use Rattle.course.proofs.Courses.{smaller-first, smaller-new, smaller-kept}
+use Rattle.best_course.proofs.Offers.{smaller-first, smaller-new, smaller-kept}
 use borrow.Author.Needs.{needs}
-use Rattle.course.proofs.smaller.Statement.{statement}
-use Rattle.course.proofs.smaller.Tie as tie
+use Rattle.best_course.proofs.smaller.Statement.{statement}
+use Rattle.best_course.proofs.smaller.Tie as tie
 
 enum-told : tie.Need-enum-told
 enum-told c = search needs
