@@ -7,7 +7,7 @@ use Rattle.laws.specs.Ops.{_⊕_, _⊖_, _⊗_, _⊘_}
 use Rattle.math.specs.Convert.{toDegrees}
 use Rattle.angle.specs.Fold.{halfTurn, wholeFold}
 use Rattle.root.specs.Sqrt.{sqrt}
-use Rattle.inverse.specs.Asin.{asin}
+use Rattle.arcsine.specs.Asin.{asin}
 use Rattle.inverse.specs.Atan2.{atan2}
 use Rattle.elementary.specs.Refusal.{numberOf}
 use Rattle.elementary.specs.declared.error.Refusal.the-variants as Why

@@ -33,7 +33,7 @@ use Rattle.grid.proofs.Arcsines.{is-arcsine}
 use Rattle.grid.proofs.Rescaling.{same-arcsine}
 use Rattle.grid.proofs.Scaling.{arcsine-most}
 use Rattle.grid.proofs.Surrounding.{arcsine-surrounded, small-surrounded}
-use Rattle.inverse.specs.Asin.{zero, one, inDomain, asin, Encloses, IsAsin}
+use Rattle.arcsine.specs.Asin.{zero, one, inDomain, asin, Encloses, IsAsin}
 
 -- ---- the domain
 pub in-domain : (x : Float) → T (fits binary64 x) → T (inDomain x) → T (finite x) × (unitsOf x ≤ 2 ^ 1074)

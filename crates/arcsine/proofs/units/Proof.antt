@@ -2,8 +2,8 @@ use Rattle.circular.proofs.Steps.{units-asks, units-is}
 use lib.Ieee.{ofBits}
 use lib.Dec.{T}
 use mathlib.Core.Path.{sym, subst}
-use Rattle.inverse.proofs.units.Statement.{statement}
-use Rattle.inverse.proofs.units.Tie as tie
+use Rattle.arcsine.proofs.units.Statement.{statement}
+use Rattle.arcsine.proofs.units.Tie as tie
 
 truncating-f64-to-u64-requires : tie.Need-truncating-f64-to-u64-requires
 unfolding ofBits

@@ -1,10 +1,10 @@
-use Rattle.inverse.proofs.Arcsines.{asks-units, answer-tiny, answer-negative, answer-inside, answer-above}
+use Rattle.arcsine.proofs.Arcsines.{asks-units, answer-tiny, answer-negative, answer-inside, answer-above}
 use Rattle.laws.proofs.Exact.{zero-by-zero}
 use lib.Dec.{T}
 use mathlib.Core.Path.{sym, subst, _∙_}
 use borrow.Author.Needs.{needs}
-use Rattle.inverse.proofs.asin.Statement.{statement}
-use Rattle.inverse.proofs.asin.Tie as tie
+use Rattle.arcsine.proofs.asin.Statement.{statement}
+use Rattle.arcsine.proofs.asin.Tie as tie
 
 returns : tie.Need-returns
 returns c = answer-tiny (c .before .before .args .x) (c .before .if1 .taken) (c .if2 .taken)

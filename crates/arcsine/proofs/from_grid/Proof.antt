@@ -4,8 +4,8 @@ use Prim.Native.Nat.{_^_}
 use lib.Dec.{le→leb}
 use lib.IntN.{pos}
 use lib.Ieee.{binary64, inFloat, ofInt, ofBits}
-use Rattle.inverse.proofs.from_grid.Statement.{statement}
-use Rattle.inverse.proofs.from_grid.Tie as tie
+use Rattle.arcsine.proofs.from_grid.Statement.{statement}
+use Rattle.arcsine.proofs.from_grid.Tie as tie
 
 int-to-float-result : tie.Need-int-to-float-result
 unfolding inFloat
