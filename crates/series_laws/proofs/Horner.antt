@@ -5,9 +5,9 @@ use mathlib.Core.List.{List, [], _∷_}
 use Prim.Native.Nat.{ℕ, _+_, _*_, _-_, _/_, _≤_, _<_}
 use native.Mathlib.Nat.{mul-le-mul-left, mul-le-mul-right, le-trans, mul-one, mul-le-mul, mul-pos, div-le-of-le-mul, div-mul-le-self, le-div-iff-mul-le}
 use native.Mathlib.Omega.{arith}
 use Rattle.series.specs.Taylor.{num, den}
 use Rattle.series.specs.Units.{horner}
-use Rattle.series.proofs.Near.{Near, near-weaken, near-den, near-part, near-mul, near-minus}
+use Rattle.series_laws.proofs.Near.{Near, near-weaken, near-den, near-part, near-mul, near-minus}
 
 unfoldable pub AtLeast : ℕ → List ℕ → Type 0
 AtLeast k [] = Unit {0}

@@ -4,9 +4,9 @@ use mathlib.Core.List.{List, [], _∷_}
 use Prim.Native.Nat.{ℕ, _+_, _*_, _-_, _≤_}
 use native.Mathlib.Nat.{mul-le-mul-left, le-trans, mul-le-mul}
 use native.Mathlib.Omega.{arith}
 use Rattle.series.specs.Taylor.{num, den, sineDivisors, cosineDivisors, sineNum, sineDen, cosineNum, cosineDen}
-use Rattle.series.proofs.Horner.{AtLeast, num-le-den, exact-le}
-use Rattle.series.proofs.Slope.{rises-to, sine-slope, sine-sharp, climb-12-to}
+use Rattle.series_laws.proofs.Horner.{AtLeast, num-le-den, exact-le}
+use Rattle.series_laws.proofs.Slope.{rises-to, sine-slope, sine-sharp, climb-12-to}
 
 -- ---- from m / d to n / d, up to 1, the sine rises by at least half of the difference, and the cosine falls
 sine-tail : AtLeast 2 (20 ∷ 42 ∷ 72 ∷ 110 ∷ 156 ∷ 210 ∷ 272 ∷ 342 ∷ 420 ∷ [])

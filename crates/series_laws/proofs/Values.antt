@@ -5,10 +5,10 @@ use mathlib.Core.List.{List, []}
 use Prim.Native.Nat.{ℕ, _+_, _*_, _/_, _≤_, _<_}
 use native.Mathlib.Nat.{le-trans, mul-one, one-mul, mul-le-mul, div-mul-le-self, le-of-mul-le-mul-right, div-le-of-le-mul}
 use native.Mathlib.Omega.{arith}
 use Rattle.series.specs.Taylor.{num, den, sineDivisors, cosineDivisors, sineNum, sineDen, cosineNum, cosineDen}
 use Rattle.series.specs.Units.{horner, square, sineUnits, cosineUnits}
-use Rattle.series.proofs.Near.{Near, near-weaken, near-mul, near-minus}
-use Rattle.series.proofs.Horner.{AtLeast, num-le-den, horner-le, horner-near, exact-le}
+use Rattle.series_laws.proofs.Near.{Near, near-weaken, near-mul, near-minus}
+use Rattle.series_laws.proofs.Horner.{AtLeast, num-le-den, horner-le, horner-near, exact-le}
 
 pub sine-at-least : AtLeast 6 sineDivisors
 unfolding AtLeast sineDivisors

@@ -1,7 +1,7 @@
 use Rattle.text.specs.Text.{bytes}
 use borrow.Author.Needs.{needs}
-use Rattle.lines.proofs.side_field.Statement.{statement}
-use Rattle.lines.proofs.side_field.Tie as tie
+use Rattle.turn_fields.proofs.side_field.Statement.{statement}
+use Rattle.turn_fields.proofs.side_field.Tie as tie
 
 enum-told : tie.Need-enum-told
 enum-told c = search needs

@@ -1,8 +1,8 @@
 use Rattle.text.specs.Text.{bytes}
 use Rattle.text.proofs.Appending.{then}
 use borrow.Author.Needs.{needs}
-use Rattle.lines.proofs.passing_fields.Statement.{statement}
-use Rattle.lines.proofs.passing_fields.Tie as tie
+use Rattle.turn_fields.proofs.passing_fields.Statement.{statement}
+use Rattle.turn_fields.proofs.passing_fields.Tie as tie
 
 enum-told : tie.Need-enum-told
 enum-told c = search needs

@@ -9,13 +9,13 @@ use native.Mathlib.Nat.{mul-le-mul-left, mul-le-mul-right, le-trans, le-of-lt, m
 use native.Mathlib.Omega.{arith}
 use lib.Dec.{T, leb, ltb, ltb→lt, nltb→le, lit<, lit≤}
 use lib.Ieee.{unlike}
 use Rattle.series.specs.Taylor.{num, den, sineDivisors, cosineDivisors, sineNum, sineDen, cosineNum, cosineDen}
 use Rattle.series.specs.Angle.{halfPi, whole, distance, quarters, Signed, even, negative, turned, reduced, negated, gap, Close}
 use Rattle.series.specs.Units.{horner, square, sineUnits, cosineUnits, one, halfPiUnits, removed, rest, turnedMinus, turnedUnits}
-use Rattle.series.proofs.Near.{Near}
-use Rattle.series.proofs.Horner.{AtLeast, num-le-den, horner-le}
-use Rattle.series.proofs.Values.{sine-close, cosine-close, sine-at-least, cosine-at-least}
-use Rattle.series.proofs.Reduction.{distance-le, left-small, near-distance, sides-differ, sides-differ-below}
+use Rattle.series_laws.proofs.Near.{Near}
+use Rattle.series_laws.proofs.Horner.{AtLeast, num-le-den, horner-le}
+use Rattle.series_laws.proofs.Values.{sine-close, cosine-close, sine-at-least, cosine-at-least}
+use Rattle.series_laws.proofs.Reduction.{distance-le, left-small, near-distance, sides-differ, sides-differ-below}
 
 -- ---- denominators are positive
 pub den-pos : (k zd : ℕ) (cs : List ℕ) → 0 < k → 0 < zd → AtLeast k cs → 0 < den zd cs

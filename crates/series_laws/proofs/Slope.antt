@@ -4,8 +4,8 @@ use mathlib.Core.List.{List, [], _∷_}
 use Prim.Native.Nat.{ℕ, _+_, _*_, _-_, _≤_}
 use native.Mathlib.Nat.{mul-le-mul-left, mul-le-mul-right, le-trans, mul-le-mul, add-sub-of-le}
 use native.Mathlib.Omega.{arith}
 use Rattle.series.specs.Taylor.{num, den}
-use Rattle.series.proofs.Horner.{AtLeast, num-le-den, exact-le}
+use Rattle.series_laws.proofs.Horner.{AtLeast, num-le-den, exact-le}
 
 -- x * u(x) for x from z to z + w: it rises, and by no more than w
 pub record Rises (zd z w : ℕ) (cs : List ℕ) : Type 0 where

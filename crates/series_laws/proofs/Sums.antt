@@ -3,8 +3,8 @@ use mathlib.Core.Path.{_≡_, ap}
 use mathlib.Core.List.{List, [], _∷_}
 use Prim.Native.Nat.{ℕ, _+_, _*_, _-_, _≤_}
 use native.Mathlib.Omega.{arith}
 use Rattle.series.specs.Taylor.{num, den}
-use Rattle.series.proofs.Horner.{AtLeast, num-le-den, exact-le}
+use Rattle.series_laws.proofs.Horner.{AtLeast, num-le-den, exact-le}
 
 -- ---- the terms with an even j, and those with an odd j, over one denominator; p is zn ^ j
 unfoldable mutual

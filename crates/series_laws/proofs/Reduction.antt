@@ -7,8 +7,8 @@ use native.Mathlib.Omega.{arith}
 use lib.Ieee.Nearest.{div-same}
 use lib.Dec.{T, leb, leb→le, nleb→lt, lit≤}
 use Rattle.laws.proofs.Numbers.{eq-by}
 use Rattle.series.specs.Angle.{halfPi, whole, distance, quarters, NearestMultiple}
-use Rattle.series.proofs.Near.{Near}
+use Rattle.series_laws.proofs.Near.{Near}
 
 -- ---- distances
 pub distance-cases : (a b : ℕ) (P : ℕ → Type 0) → ((u : ℕ) → u + b ≡ a → P u) → ((u : ℕ) → u + a ≡ b → P u) → P (distance a b)
