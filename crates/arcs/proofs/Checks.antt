@@ -2,7 +2,7 @@
 use mathlib.Core.Path.{_≡_, refl, sym, ap, _∙_, subst, subst₂}
 use mathlib.Core.Bool.{Bool, true, false, not, true≢false}
 use Prim.Native.Nat.{ℕ, _+_, _*_, _-_, _^_, _/_, _≤_, _<_}
-use native.Mathlib.Nat.{mul-le-mul, mul-pos, le-of-lt, le-refl, lt-irrefl}
+use native.Mathlib.Nat.{mul-le-mul, mul-pos, le-of-lt, le-refl, le-trans, lt-irrefl, div-le-self, sub-le}
 use native.Mathlib.Omega.{arith}
 use lib.Arith.{lt→nleb}
 use lib.Dec.{T, leb, ltb, ltb→lt, le→leb, lit<}
@@ -106,6 +106,58 @@ pub tangent-next : (u w a s c g h : ℕ) (t : Bool) → a < lastStep → s ≡ s
 unfolding notAbove
 tangent-next u w a s c g h t ha es ec eg eh p e n =
     record { within = le-of-lt ha; passes = le→leb _ _ (subst₂ (λ i j. i ≤ j) (eg ∙ ap (λ t. u * t / 2 ^ 58) es) (eh ∙ ap (λ t. w * t / 2 ^ 58) ec) p); next = λ k. subst (λ b. T (not b)) e (subst T (sym n) tt) }
+
+-- ---- the same from what the products and the series promise
+-- what a product of units, a series for the sine and one for the cosine promise
+abbrev Product : ℕ → ℕ → ℕ → Type 0
+Product a b r = (a ≤ 2 ^ 58 → b ≤ 2 ^ 58 → r ≡ a * b / 2 ^ 58) × (2 ^ 58 < a → r ≡ 0) × (2 ^ 58 < b → r ≡ 0) × (r ≤ b)
+
+abbrev SineSeries : ℕ → ℕ → Type 0
+SineSeries z r = (z ≤ 2 ^ 58 → r ≡ horner (2 ^ 58) z 1 sineDivisors) × (2 ^ 58 < z → r ≡ 0) × (r ≤ 2 ^ 58)
+
+abbrev CosineSeries : ℕ → ℕ → Type 0
+CosineSeries z r = (z ≤ 2 ^ 58 → r ≡ horner (2 ^ 58) z 1 cosineDivisors) × (2 ^ 58 < z → r ≡ 0) × (r ≤ 2 ^ 58)
+
+-- the angle of a step, and so its square, is at most one
+angle-small : (a : ℕ) → a < lastStep → 512 * a ≤ 2 ^ 58
+angle-small a h = omega arith
+
+module _ (a z : ℕ) (ha : a < lastStep) (pz : Product (512 * a) (512 * a) z) where
+  square-is : z ≡ 512 * a * (512 * a) / 2 ^ 58
+  square-is = pz .0 (angle-small a ha) (angle-small a ha)
+
+  square-within : z ≤ 2 ^ 58
+  square-within = le-trans (pz .3) (angle-small a ha)
+
+  pub sine-of : (q s : ℕ) → SineSeries z q → Product (512 * a) q s → s ≡ sineStep a
+  sine-of q s pq ps = sine-is a (512 * a) z q s refl square-is (pq .0 square-within) (ps .0 (angle-small a ha) (pq .2))
+
+  pub cosine-of : (k t : ℕ) → CosineSeries z k → Product z k t → 2 ^ 58 - t / 2 ≡ cosineStep a
+  cosine-of k t pk pt = cosine-is a (512 * a) z k t refl square-is (pk .0 square-within) (pt .0 square-within (pk .2))
+
+  -- over a square of f, which is no less than one
+  rest-small : (f : ℕ) → z / (f * f) ≤ 2 ^ 58
+  rest-small f = le-trans (div-le-self z (f * f)) square-within
+
+  pub rest-value : (f q t : ℕ) → CosineSeries (z / (f * f)) q → Product z q t → t ≡ restStep f a
+  rest-value f q t pq pt = rest-is f a (512 * a) z q t refl square-is (pq .0 (rest-small f)) (pt .0 square-within (pq .2))
+
+  pub sine-settled : (x q s : ℕ) → SineSeries z q → Product (512 * a) q s → s ≤ x → x - s + 10 ≤ (2 ^ 58 - z / 2) / 2 ^ 49 → Found lastStep (atMost x) a
+  sine-settled x q s pq ps p e = sine-here x a z s ha square-is (sine-of q s pq ps) p e
+
+  pub rest-settled : (e f q t g : ℕ) → 0 < f → CosineSeries (z / (f * f)) q → Product z q t → Product (512 * a) (2 ^ 58 - z / (f * f) / 6) g → t ≤ 2 * (e * (f * f)) → 2 * (e * (f * f)) + 9 ≤ t + g / 2 ^ 48 → Found lastStep (fitsIn e f) a
+  rest-settled e f q t g hf pq pt pg p h = rest-here e f a z (z / (f * f)) t g hf ha square-is refl (rest-small f) (rest-value f q t pq pt) (pg .0 (angle-small a ha) (sub-le (2 ^ 58) _)) p h
+
+  module _ (u w q s k t g h : ℕ) (hu : u ≤ 2 ^ 58) (hw : w ≤ 2 ^ 58) (pq : SineSeries z q) (ps : Product (512 * a) q s) (pk : CosineSeries z k) (pt : Product z k t) (pg : Product u s g) (ph : Product w (2 ^ 58 - t / 2) h) (p : g ≤ h) where
+    sine-within : s ≤ 2 ^ 58
+    sine-within = le-trans (ps .3) (pq .2)
+
+    pub tangent-settled : (x y : ℕ) → Product u (2 ^ 58 - z / 2) x → Product w (512 * a - 512 * a / 6) y → h + 17 ≤ g + (x + y) / 2 ^ 49 → Found lastStep (notAbove u w) a
+    tangent-settled x y px py e =
+        tangent-here u w a z s (2 ^ 58 - t / 2) g h x y hu hw ha square-is square-within (sine-of q s pq ps) (cosine-of k t pk pt) (pg .0 hu sine-within) (ph .0 hw (sub-le (2 ^ 58) _)) (px .0 hu (sub-le (2 ^ 58) _)) (py .0 hw (le-trans (sub-le (512 * a) _) (angle-small a ha))) p e
+
+    pub tangent-settled-next : (b : Bool) → b ≡ notAbove u w (a + 1) → not b ≡ true → Found lastStep (notAbove u w) a
+    tangent-settled-next b eb n = tangent-next u w a s (2 ^ 58 - t / 2) g h b ha (sine-of q s pq ps) (cosine-of k t pk pt) (pg .0 hu sine-within) (ph .0 hw (sub-le (2 ^ 58) _)) p eb n
 
 -- the last step, where it passes
 pub at-last : (p : ℕ → Bool) → T (p lastStep) → Found lastStep p lastStep

@@ -27,10 +27,10 @@ use Rattle.math.proofs.Sign.{at-most-size}
 use Rattle.series.specs.Angle.{whole, distance, quarters, NearestMultiple, Signed, negative, even, reduced, turned, negated, sineSum, cosineSum, gap, Close}
 use Rattle.series.specs.Taylor.{num, den, sineDivisors, sineNum, sineDen}
 use Rattle.series.specs.Units.{one, turnedMinus, turnedUnits}
-use Rattle.series.proofs.Near.{Near}
-use Rattle.series.proofs.Horner.{num-le-den}
-use Rattle.series.proofs.Reduction.{quarters-nearest, quarters-same, quarters-between, quarters-few}
-use Rattle.series.proofs.Turned.{Reduced, reduced-by-units, turned-close, turned-most, negated-close, gap-same, sine-proper}
+use Rattle.series_laws.proofs.Near.{Near}
+use Rattle.series_laws.proofs.Horner.{num-le-den}
+use Rattle.series_laws.proofs.Reduction.{quarters-nearest, quarters-same, quarters-between, quarters-few}
+use Rattle.series_laws.proofs.Turned.{Reduced, reduced-by-units, turned-close, turned-most, negated-close, gap-same, sine-proper}
 use Rattle.circular.specs.Sine.{largest, tiny, inDomain, scaled, fromUnits, sin, cos, sineOf, cosineOf, Value, IsSine, IsCosine}
 
 -- ---- the domain

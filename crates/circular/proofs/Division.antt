@@ -9,7 +9,7 @@ use native.Mathlib.Omega.{arith}
 use lib.Dec.{lit<, lit≤}
 use Rattle.series.specs.Angle.{halfPi, whole, quarters}
 use Rattle.series.specs.Units.{one}
-use Rattle.series.proofs.Reduction.{quarters-between}
+use Rattle.series_laws.proofs.Reduction.{quarters-between}
 
 module _ (w K F B q n : ℕ) (eq : q ≡ w * K + F) (odd : K ≡ 2 * B + 1) (least : 81 * w ≤ 125 * F) (most : 20 * F ≤ 13 * w) where
   -- w n in terms of the quotient and the remainder

@@ -1,11 +1,10 @@
 -- What the code of `course_for_cpa` owes.
 use mathlib.Core.Path.{_≡_, refl, sym, ap, _∙_}
-use mathlib.Core.Bool.{Bool, true, false, _&&_, cond}
+use mathlib.Core.Bool.{Bool, true, false, _&&_}
 use mathlib.Core.List.{_++_}
 use lib.Ieee.{Float, neg, lt, le}
 use Rattle.laws.specs.Ops.{_⊕_, _⊖_, _⊗_}
 use Rattle.math.specs.Convert.{toDegrees}
-use Rattle.angle.specs.Fold.{halfFold}
 use Rattle.root.specs.Sqrt.{sqrt}
 use Rattle.inverse.specs.Atan2.{atan2}
 use Rattle.elementary.specs.declared.error.Refusal.{Refusal}
@@ -17,14 +16,12 @@ use Rattle.motion.specs.declared.vessel.Vessel.{Vessel}
 use Rattle.motion.specs.declared.vessel.Contact.{Contact}
 use Rattle.motion.specs.declared.vessel.Components.{Components}
 use Rattle.course.specs.declared.Alteration.{Alteration}
-use Rattle.course.specs.declared.Best.{Best}
-use Rattle.course.specs.declared.Best.the-variants.{Nothing, By}
-use Rattle.course.specs.declared.Choice.{Choice}
+use Rattle.best_course.specs.declared.Choice.{Choice}
 use Rattle.course.specs.declared.CourseAnswer.{CourseAnswer}
 use Rattle.course.specs.declared.CourseAnswer.the-variants as CourseAnswer
 use Rattle.arguments.specs.Check.{zero, verdict, encounterChecks, distanceChecks}
 use Rattle.motion.specs.Vessel.{unit}
-use Rattle.course.specs.Course.{one, clamped, smaller, larger, offered, atSpeed, along, alterationTo, isNothing, choiceOf, avoidanceOf, courseFor, courseBy, courseAnswer}
+use Rattle.course.specs.Course.{one, clamped, offered, atSpeed, along, alterationTo, isNothing, choiceOf, avoidanceOf, courseFor, courseBy, courseAnswer}
 
 -- ---- the ends of `clamped`
 module _ (x : Float) where
@@ -39,40 +36,6 @@ module _ (x : Float) where
   pub clamped-inside : lt x (neg one) ≡ false → lt one x ≡ false → x ≡ clamped x
   unfolding clamped
   clamped-inside h k = rw (h, k) refl
-
--- ---- the better of two
-module _ (best : Best) (a c : Float) where
-  pub smaller-first : best ≡ Nothing → By a c ≡ smaller best a c
-  smaller-first e = ap (λ b. smaller b a c) (sym e)
-
-  pub smaller-new : (b d : Float) → best ≡ By b d → lt a b ≡ true → By a c ≡ smaller best a c
-  smaller-new b d e h = sym (ap (λ t. cond t (By a c) (By b d)) h) ∙ ap (λ b. smaller b a c) (sym e)
-
-  pub smaller-kept : (b d : Float) → best ≡ By b d → lt a b ≡ false → By b d ≡ smaller best a c
-  smaller-kept b d e h = sym (ap (λ t. cond t (By a c) (By b d)) h) ∙ ap (λ b. smaller b a c) (sym e)
-
-  pub larger-first : best ≡ Nothing → By a c ≡ larger best a c
-  larger-first e = ap (λ b. larger b a c) (sym e)
-
-  pub larger-new : (b d : Float) → best ≡ By b d → lt b a ≡ true → By a c ≡ larger best a c
-  larger-new b d e h = sym (ap (λ t. cond t (By a c) (By b d)) h) ∙ ap (λ b. larger b a c) (sym e)
-
-  pub larger-kept : (b d : Float) → best ≡ By b d → lt b a ≡ false → By b d ≡ larger best a c
-  larger-kept b d e h = sym (ap (λ t. cond t (By a c) (By b d)) h) ∙ ap (λ b. larger b a c) (sym e)
-
--- ---- one course more
-module _ (own course : Float) (choice : Choice) (a : Float) (is : a ≡ halfFold (course ⊖ own)) where
-  pub to-starboard : (s : Best) → lt zero a ≡ true → s ≡ smaller (choice .starboard) a course → record { starboard = s; port = choice .port } ≡ offered own course choice
-  unfolding offered
-  to-starboard s h e = cc
-
-  pub to-port : (p : Best) → lt zero a ≡ false → lt a zero ≡ true → p ≡ larger (choice .port) a course → record { starboard = choice .starboard; port = p } ≡ offered own course choice
-  unfolding offered
-  to-port p h k e = cc
-
-  pub to-neither : lt zero a ≡ false → lt a zero ≡ false → record { starboard = choice .starboard; port = choice .port } ≡ offered own course choice
-  unfolding offered
-  to-neither h k = cc
 
 -- ---- along a track
 module _ (own : Float) (target track : Components) (speed : Float) (choice : Choice) where

@@ -5,9 +5,9 @@ use Prim.Native.Nat.{ℕ}
 use lib.Ieee.{Float, binary64, neg, lt, le, ofBits}
 use Rattle.laws.specs.Ops.{_⊕_, _⊖_, _⊗_, _⊘_}
 use Rattle.math.specs.Convert.{toDegrees}
-use Rattle.angle.specs.Fold.{halfTurn, wholeFold, halfFold}
+use Rattle.angle.specs.Fold.{halfTurn, wholeFold}
 use Rattle.root.specs.Sqrt.{sqrt}
-use Rattle.inverse.specs.Asin.{asin}
+use Rattle.arcsine.specs.Asin.{asin}
 use Rattle.inverse.specs.Atan2.{atan2}
 use Rattle.elementary.specs.Refusal.{numberOf}
 use Rattle.elementary.specs.declared.error.Refusal.the-variants as Why
@@ -19,13 +19,15 @@ use Rattle.motion.specs.declared.vessel.Contact.{Contact}
 use Rattle.motion.specs.declared.vessel.Components.{Components}
 use Rattle.course.specs.declared.Alteration.{Alteration}
 use Rattle.course.specs.declared.Alteration.the-variants as Alteration
-use Rattle.course.specs.declared.Best.{Best}
-use Rattle.course.specs.declared.Best.the-variants as Best
-use Rattle.course.specs.declared.Choice.{Choice}
+use Rattle.best_course.specs.declared.Best.{Best}
+use Rattle.best_course.specs.declared.Best.the-variants as Best
+use Rattle.best_course.specs.declared.Choice.{Choice}
 use Rattle.course.specs.declared.CourseAnswer.{CourseAnswer}
 use Rattle.course.specs.declared.CourseAnswer.the-variants as CourseAnswer
 use Rattle.arguments.specs.Check.{zero, verdict, encounterChecks, distanceChecks}
 use Rattle.motion.specs.Vessel.{unit, velocity}
+pub use Rattle.best_course.specs.Offers.{smaller, larger}
+unfoldable pub use Rattle.best_course.specs.Offers.{offered}
 
 -- 1
 abbrev pub one : Float
@@ -37,22 +39,6 @@ clamped x = cond (lt x (neg one)) (neg one) (cond (lt one x) one x)
 
 unfoldable pub grazing : Float → Float → Float
 grazing wanted range = toDegrees (asin (clamped (wanted ⊘ range)))
-
--- ---- the smallest alteration to either side
-abbrev pub smaller : Best → Float → Float → Best
-smaller Best.Nothing alteration course = Best.By alteration course
-smaller (Best.By least kept) alteration course = cond (lt alteration least) (Best.By alteration course) (Best.By least kept)
-
-abbrev pub larger : Best → Float → Float → Best
-larger Best.Nothing alteration course = Best.By alteration course
-larger (Best.By most kept) alteration course = cond (lt most alteration) (Best.By alteration course) (Best.By most kept)
-
-unfoldable pub offered : Float → Float → Choice → Choice
-offered ownCourse course choice =
-    let alteration = halfFold (course ⊖ ownCourse) in
-    cond (lt zero alteration) (record { starboard = smaller (choice .starboard) alteration course; port = choice .port })
-    (cond (lt alteration zero) (record { starboard = choice .starboard; port = larger (choice .port) alteration course })
-    (record { starboard = choice .starboard; port = choice .port }))
 
 -- ---- own velocity is the target's less a relative speed along the track
 unfoldable pub atSpeed : Float → Components → Components → Float → Choice → Choice

@@ -2,6 +2,9 @@
 ghost use mathlib.Core.Path.{_≡_};
 ghost use Rattle.course.specs.Course as Spec;
 use arguments::Verdict;
+use best_course::Best;
+use best_course::Choice;
+use best_course::offered;
 use elementary::error::Refusal;
 use motion::units::Direction;
 use motion::units::Distance;
@@ -25,72 +28,6 @@ pub struct Avoidance {
 pub enum CourseAnswer {
     Of(Avoidance),
     Refused(Refusal),
-}
-
-// The best course so far on a side: by how much it alters, and the course.
-pub enum Best {
-    Nothing,
-    By(f64, f64),
-}
-
-pub struct Choice {
-    starboard: Best,
-    port: Best,
-}
-
-// The smaller of two alterations to starboard.
-fn smaller(best: Best, alteration: f64, course: f64) -> Best
-    ensures { λ r. ⌜ r ≡ Spec.smaller best alteration course ⌝ }
-{
-    match best {
-        Best::Nothing => Best::By(alteration, course),
-        Best::By(least, kept) => {
-            if alteration < least {
-                return Best::By(alteration, course);
-            }
-            Best::By(least, kept)
-        }
-    }
-}
-
-// The larger of two alterations: to port they are negative.
-fn larger(best: Best, alteration: f64, course: f64) -> Best
-    ensures { λ r. ⌜ r ≡ Spec.larger best alteration course ⌝ }
-{
-    match best {
-        Best::Nothing => Best::By(alteration, course),
-        Best::By(most, kept) => {
-            if alteration > most {
-                return Best::By(alteration, course);
-            }
-            Best::By(most, kept)
-        }
-    }
-}
-
-// One course more to choose from. No alteration at all belongs to neither side.
-fn offered(own_course: f64, course: f64, choice: Choice) -> Choice
-    ensures { λ r. ⌜ r ≡ Spec.offered «own_course» course choice ⌝ }
-{
-    let alteration = angle::wrap180(course - own_course);
-    let starboard = choice.starboard;
-    let port = choice.port;
-    if alteration > 0.0 {
-        return Choice {
-            starboard: smaller(starboard, alteration, course),
-            port: port,
-        };
-    }
-    if alteration < 0.0 {
-        return Choice {
-            starboard: starboard,
-            port: larger(port, alteration, course),
-        };
-    }
-    Choice {
-        starboard: starboard,
-        port: port,
-    }
 }
 
 // The course that gives a relative speed along `track`, if the speed is one.

@@ -9,9 +9,9 @@ use Rattle.root.specs.Hypot.{hypot, inDomain}
 use Rattle.root.proofs.HypotBound.{hypot-is}
 use Rattle.circular.specs.Sine as Circular
 use Rattle.circular.proofs.Bound.{sine-is, cosine-is}
-use Rattle.inverse.specs.Asin as Asin
+use Rattle.arcsine.specs.Asin as Asin
 use Rattle.inverse.specs.Atan2 as Atan2
-use Rattle.inverse.proofs.Arcsines.{arcsine-is}
+use Rattle.arcsine.proofs.Arcsines.{arcsine-is}
 use Rattle.inverse.proofs.Arctangents.{arctangent-is}
 use Rattle.domains.specs.Checked.{numberOrRefused, hypotAnswer, sinAnswer, cosAnswer, asinAnswer, atan2Answer}
 use Rattle.elementary.specs.declared.error.Refusal.the-variants.{Angle}

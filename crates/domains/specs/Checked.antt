@@ -4,7 +4,7 @@ use Prim.Native.Nat.{ℕ}
 use lib.Ieee.{Float, nan, eq}
 use Rattle.root.specs.Hypot.{hypot, inDomain}
 use Rattle.circular.specs.Sine as Circular
-use Rattle.inverse.specs.Asin as Asin
+use Rattle.arcsine.specs.Asin as Asin
 use Rattle.inverse.specs.Atan2 as Atan2
 use Rattle.elementary.specs.Refusal.{numberOf}
 use Rattle.elementary.specs.declared.error.Refusal.the-variants.{Angle}

@@ -4,7 +4,7 @@ ghost use mathlib.Core.Path.{_≡_};
 ghost use Rattle.root.specs.Sqrt.{sqrt, IsSqrt};
 ghost use Rattle.root.specs.Hypot.{hypot, IsHypot};
 ghost use Rattle.circular.specs.Sine.{sin, cos, IsSine, IsCosine};
-ghost use Rattle.inverse.specs.Asin.{asin, IsAsin};
+ghost use Rattle.arcsine.specs.Asin.{asin, IsAsin};
 ghost use Rattle.inverse.specs.Atan2.{atan2, IsAtan2};
 
 #[no_mangle]

@@ -9,7 +9,7 @@ use lib.Dec.{ltb, lit<, lit≤}
 use lib.Ieee.{unlike}
 use Rattle.series.specs.Taylor.{sineNum, sineDen, cosineNum, cosineDen}
 use Rattle.series.specs.Angle.{halfPi, whole, Signed, even, negative, turned, reduced, negated, sineSum, cosineSum}
-use Rattle.series.proofs.Turned.{sine-proper, cosine-proper}
+use Rattle.series_laws.proofs.Turned.{sine-proper, cosine-proper}
 use Rattle.grid.specs.Enclosure.{Angle, Leq, Nearer, Farther, Quadrant, IsArctangent}
 use Rattle.grid.proofs.Turning.{c, Sine, Cosine, same-sine, same-cosine, after-sum, before-sum, below-or-none}
 use Rattle.grid.proofs.Placing.{Turn, up, down, over, back, size, Side, Proper, NotUnder, NotOver, Around}

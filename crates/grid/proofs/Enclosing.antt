@@ -7,7 +7,7 @@ use native.Mathlib.Omega.{arith}
 use lib.Dec.{lit<}
 use Rattle.series.specs.Taylor.{sineNum, sineDen, cosineNum, cosineDen}
 use Rattle.series.specs.Angle.{halfPi, whole, even, negative, turned, negated, sineSum}
-use Rattle.series.proofs.Turned.{sine-proper, cosine-proper}
+use Rattle.series_laws.proofs.Turned.{sine-proper, cosine-proper}
 use Rattle.grid.proofs.Turning.{c, Sine, Cosine, same-sine, same-cosine, after-sum, before-sum}
 use Rattle.grid.specs.Enclosure.{IsAtMost, IsAtLeast}
 

@@ -7,9 +7,9 @@ use native.Mathlib.Omega.{arith}
 use lib.Dec.{T, leb→le, nleb→lt, le→leb, lit<, lit≤}
 use Rattle.series.specs.Taylor.{sineDivisors, cosineDivisors, sineNum, sineDen, cosineNum, cosineDen}
 use Rattle.series.specs.Units.{horner, square, sineUnits, cosineUnits}
-use Rattle.series.proofs.Horner.{num-le-den}
-use Rattle.series.proofs.Rise.{cosine-falls, cosine-falls-by}
-use Rattle.series.proofs.Turned.{cosine-proper}
+use Rattle.series_laws.proofs.Horner.{num-le-den}
+use Rattle.series_laws.proofs.Rise.{cosine-falls, cosine-falls-by}
+use Rattle.series_laws.proofs.Turned.{cosine-proper}
 use Rattle.grid.specs.Search.{Found}
 use Rattle.grid.specs.Grid.{lastStep, sineStep, cosineStep}
 use Rattle.grid.specs.Arctangent.{notAbove, arctangentSteps}

@@ -6,10 +6,10 @@ use native.Mathlib.Omega.{arith}
 use lib.Dec.{lit<}
 use Rattle.series.specs.Taylor.{sineDivisors, sineNum, sineDen, cosineNum, cosineDen}
 use Rattle.series.specs.Units.{horner, square, sineUnits}
-use Rattle.series.proofs.Near.{Near}
-use Rattle.series.proofs.Values.{sine-near, cosine-near}
-use Rattle.series.proofs.Rise.{sine-rises, sine-rises-sharp}
-use Rattle.series.proofs.Turned.{sine-proper}
+use Rattle.series_laws.proofs.Near.{Near}
+use Rattle.series_laws.proofs.Values.{sine-near, cosine-near}
+use Rattle.series_laws.proofs.Rise.{sine-rises, sine-rises-sharp}
+use Rattle.series_laws.proofs.Turned.{sine-proper}
 use Rattle.grid.specs.Grid.{lastStep, sineStep, cosineStep}
 
 -- ---- over any scale S = k * d: the sine from m / d to n / d rises by at least k / 2 units for each step of 1 / d

@@ -8,8 +8,8 @@ use native.Mathlib.Nat.{mul-lt-mul-of-pos-left, le-antisymm, le-of-eq, div-le-se
 use native.Mathlib.Omega.{arith}
 use lib.Dec.{T, leb, ltb, leb→le, nleb→lt, ltb→lt, nltb→le, lit<, lit≤}
 use Rattle.series.specs.Taylor.{num, den, sineDivisors, sineNum, sineDen, cosineNum, cosineDen}
-use Rattle.series.proofs.Horner.{num-le-den}
-use Rattle.series.proofs.Rise.{cosine-falls, cosine-at-zero}
+use Rattle.series_laws.proofs.Horner.{num-le-den}
+use Rattle.series_laws.proofs.Rise.{cosine-falls, cosine-at-zero}
 use Rattle.grid.specs.Grid.{lastStep, sineStep}
 use Rattle.series.specs.Angle.{halfPi, whole}
 use Rattle.grid.specs.Arcsine.{arcsineSteps, upperSteps, scale, halfPiSteps, arcsineUnits}

@@ -9,8 +9,8 @@ use lib.Dec.{T, ltb, ltb→lt, nltb→le, lit<}
 use Rattle.laws.proofs.Bools.{refuted}
 use Rattle.series.specs.Taylor.{sineNum, sineDen, cosineNum, cosineDen}
 use Rattle.series.specs.Angle.{halfPi, whole, distance, quarters, Signed, turned, reduced}
-use Rattle.series.proofs.Reduction.{quarters-between}
-use Rattle.series.proofs.Same.{sine-same, cosine-same}
+use Rattle.series_laws.proofs.Reduction.{quarters-between}
+use Rattle.series_laws.proofs.Same.{sine-same, cosine-same}
 
 -- ---- the sine and the cosine of n / d, over the scale that the reduction has
 abbrev pub c : ℕ

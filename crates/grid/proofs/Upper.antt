@@ -9,12 +9,12 @@ use native.Mathlib.Omega.{arith}
 use lib.Dec.{T, T-not, leb, leb→le, nleb→lt, le→leb, lit<}
 use Rattle.series.specs.Taylor.{num, den, cosineDivisors, cosineNum, cosineDen}
 use Rattle.series.specs.Units.{square}
-use Rattle.series.proofs.Near.{Near, near-mul}
-use Rattle.series.proofs.Horner.{AtLeast, num-le-den, horner-le, horner-near, exact-le}
-use Rattle.series.proofs.Values.{square-small, cosine-at-least}
-use Rattle.series.proofs.Rise.{cosine-falls}
-use Rattle.series.proofs.Slope.{climb-12-to, climb-sharp}
-use Rattle.series.proofs.Turned.{den-pos}
+use Rattle.series_laws.proofs.Near.{Near, near-mul}
+use Rattle.series_laws.proofs.Horner.{AtLeast, num-le-den, horner-le, horner-near, exact-le}
+use Rattle.series_laws.proofs.Values.{square-small, cosine-at-least}
+use Rattle.series_laws.proofs.Rise.{cosine-falls}
+use Rattle.series_laws.proofs.Slope.{climb-12-to, climb-sharp}
+use Rattle.series_laws.proofs.Turned.{den-pos}
 use Rattle.grid.specs.Search.{Found}
 use Rattle.grid.specs.Grid.{lastStep}
 use Rattle.grid.specs.Arcsine.{rest, restStep, fitsIn, upperSteps, scaleFrom, scale}

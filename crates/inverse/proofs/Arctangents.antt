@@ -29,7 +29,7 @@ use Rattle.grid.proofs.Arctangents.{is-arctangent}
 use Rattle.grid.proofs.Octant.{arctangent-found}
 use Rattle.grid.proofs.Placing.{Around, across, along, arctangent-around}
 use Rattle.grid.proofs.Rescaling.{same-arctangent, same-point}
-use Rattle.inverse.specs.Asin.{zero}
+use Rattle.arcsine.specs.Asin.{zero}
 use Rattle.inverse.specs.Atan2.{scaledBy, octant, angleSteps, bothFinite, atan2, IsAngle, IsAtan2}
 use Rattle.inverse.proofs.Octants.{scaled-exact, scaled-least}
 

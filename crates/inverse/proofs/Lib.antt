@@ -1,5 +1,4 @@
--- Laws on the arcsine and the arctangent of f64s.
-pub mod Arcsines
+-- Laws on the arctangent of f64s, and the sizes of both.
 pub mod Arctangents
 pub mod Octants
 pub mod Sizes

@@ -14,9 +14,9 @@ use Rattle.laws.specs.Units.{unitsOf}
 use Rattle.laws.proofs.Exact.{round-power}
 use Rattle.laws.proofs.Size.{small-of-value}
 use Rattle.series.specs.Angle.{halfPi, whole}
-use Rattle.inverse.specs.Asin as Asin
+use Rattle.arcsine.specs.Asin as Asin
 use Rattle.inverse.specs.Atan2.{angleSteps, bothFinite, atan2}
-use Rattle.inverse.proofs.Arcsines.{arcsine-is}
+use Rattle.arcsine.proofs.Arcsines.{arcsine-is}
 use Rattle.inverse.proofs.Arctangents.{angle-few}
 
 pub asin-small : (x : Float) → T (fits binary64 x) → T (Asin.inDomain x) → Small 1 0 (Asin.asin x)

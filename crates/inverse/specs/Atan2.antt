@@ -10,7 +10,7 @@ use Rattle.series.specs.Angle.{halfPi, whole}
 use Rattle.grid.specs.Arcsine.{halfPiSteps}
 use Rattle.grid.specs.Arctangent.{arctangentSteps, placed}
 use Rattle.grid.specs.Enclosure.{IsArctangent}
-use Rattle.inverse.specs.Asin.{zero}
+use Rattle.arcsine.specs.Asin.{zero}
 
 -- a, scaled by the power of two that gives `larger` 58 digits, and cut
 unfoldable pub scaledBy : ℕ → ℕ → ℕ

@@ -1,3 +1,2 @@
--- Arcsine and arctangent of f64s.
-pub mod Asin
+-- Arctangent of f64s.
 pub mod Atan2

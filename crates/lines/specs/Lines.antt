@@ -8,16 +8,12 @@ use Rattle.fields.specs.Fields.{quantityField, approachField, distanceOf, secon
 use Rattle.ruling_fields.specs.Fields.{encounterField, responsibilityField}
 use Rattle.elementary.specs.declared.error.Refusal.{Refusal}
 use Rattle.elementary.specs.Refusal.{numberOf}
-use Rattle.motion.specs.declared.units.Distance.{Distance}
 use Rattle.relative_motion.specs.declared.approach.Approach.{Approach}
 use Rattle.risk.specs.declared.CollisionRisk.{CollisionRisk}
 use Rattle.colregs.specs.declared.answer.Ruling.{Ruling}
 use Rattle.colregs.specs.Ruling.{ruleNumber}
-use Rattle.manoeuvre.specs.declared.answer.Side.{Side}
-use Rattle.manoeuvre.specs.declared.answer.Side.the-variants as Side
-use Rattle.manoeuvre.specs.declared.answer.Limiting.{Limiting}
-use Rattle.manoeuvre.specs.declared.answer.Limiting.the-variants as Limiting
 use Rattle.rulings.specs.declared.RuledManoeuvre.{RuledManoeuvre}
+pub use Rattle.turn_fields.specs.Fields.{sideField, passingField, limitingField}
 
 -- 'id, approach, CPA (range if OPENING or STATIONARY), whole seconds to CPA rounded down (`-` if none), risk, encounter, responsibility, rule'
 unfoldable pub contactLine : ℕ → Approach → CollisionRisk → Ruling → List ℕ
@@ -33,21 +29,6 @@ contactLine id approach risk ruling =
     ∷ responsibilityField (ruling .responsibility)
     ∷ decimalOf (ruleNumber (ruling .rule))
     ∷ [])
-
--- 'side (S or P, the list that held the trial, also at 0)'
-abbrev pub sideField : Side → List ℕ
-sideField Side.Starboard = bytes "S"
-sideField Side.Port = bytes "P"
-
--- 'passing distance (FREE without contacts)'
-abbrev pub passingField : Limiting → Distance → List ℕ
-passingField Limiting.Nobody passing = bytes "FREE"
-passingField (Limiting.Contact place) passing = quantityField (passing .0)
-
--- 'limiting id (NONE)'
-abbrev pub limitingField : Limiting → ℕ → List ℕ
-limitingField Limiting.Nobody id = bytes "NONE"
-limitingField (Limiting.Contact place) id = decimalOf id
 
 -- 'side, magnitude, new course, passing distance, limiting id'; the id is that of the limiting contact
 unfoldable pub alterLine : RuledManoeuvre → ℕ → List ℕ

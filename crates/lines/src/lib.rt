@@ -1,18 +1,15 @@
 // The lines that the encounter sheet's program prints, each appended to a text.
 ghost use mathlib.Core.Path.{_≡_};
-ghost use mathlib.Core.List.{[], _∷_};
 ghost use Rattle.text.specs.Text.{shown, appended};
-ghost use Rattle.text.specs.Line.{spaced, line};
 ghost use Rattle.lines.specs.Lines as Spec;
 use colregs::answer::Ruling;
 use elementary::error::Refusal;
-use manoeuvre::answer::Limiting;
-use manoeuvre::answer::Side;
-use motion::units::Distance;
 use relative_motion::approach::Approach;
 use risk::CollisionRisk;
 use rulings::RuledManoeuvre;
 use text::Text;
+use turn_fields::passing_fields;
+use turn_fields::side_field;
 
 // The line on a contact: its id, how it approaches, the risk, and the ruling on it.
 pub fn contact_line(
@@ -34,29 +31,6 @@ pub fn contact_line(
     let t = ruling_fields::encounter(t, encounter);
     let t = ruling_fields::responsibility(t, responsibility);
     t.number(rule.number() as u64).byte(b'\n')
-}
-
-// The side of the turn.
-fn side_field(t: Text, side: Side) -> Text
-    ensures { λ r. ⌜ shown r ≡ appended (shown t) (spaced (Spec.sideField side)) ⌝ }
-{
-    match side {
-        Side::Starboard => t.put(b"S "),
-        Side::Port => t.put(b"P "),
-    }
-}
-
-// The least passing distance and the id of the contact whose it is, to the line's end.
-fn passing_fields(t: Text, limiting: Limiting, passing: Distance, id: u32) -> Text
-    ensures { λ r. ⌜ shown r ≡ appended (shown t) (line (Spec.passingField limiting passing ∷ Spec.limitingField limiting id ∷ [])) ⌝ }
-{
-    match limiting {
-        Limiting::Nobody => t.put(b"FREE NONE\n"),
-        Limiting::Contact(place) => {
-            let t = fields::quantity(t, passing.0);
-            t.number(id as u64).byte(b'\n')
-        }
-    }
 }
 
 // The line on the ruled search's answer. The id is that of the limiting contact, and is not read where there is none.

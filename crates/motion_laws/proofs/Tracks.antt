@@ -23,7 +23,7 @@ use Rattle.laws.proofs.Compare.{lt-units, lt-units-signed, le-units, le-values}
 use Rattle.laws.proofs.Order.{le-lt-trans, le-trans-float, le-of-lt-float, le-not-lt, le-or-lt}
 use Rattle.math.specs.Convert.{degreesPerRadian, toRadians, toDegrees}
 use Rattle.angle.specs.Fold.{halfTurn, halfFold}
-use Rattle.inverse.specs.Asin as asin
+use Rattle.arcsine.specs.Asin as asin
 use Rattle.inverse.specs.Atan2.{atan2}
 use Rattle.inverse.proofs.Arctangents.{not-nan}
 use Rattle.inverse.proofs.Sizes.{asin-small, atan2-small}
@@ -33,9 +33,9 @@ use Rattle.arguments.specs.Check.{verdict, encounterChecks, distanceChecks, isD
 use Rattle.arguments.specs.Check as Check
 use Rattle.motion.specs.declared.vessel.Vessel.{Vessel}
 use Rattle.motion.specs.declared.vessel.Components.{Components}
-use Rattle.course.specs.declared.Best.{Best}
-use Rattle.course.specs.declared.Best.the-variants as Best
-use Rattle.course.specs.declared.Choice.{Choice}
+use Rattle.best_course.specs.declared.Best.{Best}
+use Rattle.best_course.specs.declared.Best.the-variants as Best
+use Rattle.best_course.specs.declared.Choice.{Choice}
 use Rattle.motion.specs.Vessel.{unit, velocity}
 use Rattle.arguments.specs.declared.Verdict.{Verdict}
 use Rattle.arguments.specs.declared.Verdict.the-variants.{Accepted, Refused}

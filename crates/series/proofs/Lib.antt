@@ -1,11 +1,2 @@
--- Laws on the sums.
+-- What the code of the sums owes.
 pub mod Halves
-pub mod Horner
-pub mod Near
-pub mod Reduction
-pub mod Rise
-pub mod Same
-pub mod Slope
-pub mod Sums
-pub mod Turned
-pub mod Values

@@ -15,9 +15,9 @@ use Rattle.relative_motion.specs.declared.approach.Cpa.{Cpa}
 use Rattle.relative_motion.specs.declared.approach.CpaAnswer.{CpaAnswer}
 use Rattle.relative_motion.specs.declared.approach.CpaAnswer.the-variants as CpaAnswer
 use Rattle.relative_motion.specs.Approach.{approachKind}
-use Rattle.course.specs.declared.Best.{Best}
-use Rattle.course.specs.declared.Best.the-variants as Best
-use Rattle.course.specs.declared.Choice.{Choice}
+use Rattle.best_course.specs.declared.Best.{Best}
+use Rattle.best_course.specs.declared.Best.the-variants as Best
+use Rattle.best_course.specs.declared.Choice.{Choice}
 use Rattle.policy.specs.declared.CpaPolicy.{CpaPolicy}
 use Rattle.risk.specs.declared.PerhapsCpa.{PerhapsCpa}
 use Rattle.risk.specs.declared.PerhapsCpa.the-variants as Cpas

@@ -32,7 +32,7 @@ use Rattle.grid.specs.Arcsine as arcsine
 use Rattle.grid.specs.Arctangent.{arctangentSteps, notAbove, placed}
 use Rattle.grid.specs.Grid.{cosineStep, sineStep}
 use Rattle.grid.specs.Search.{greatest, greatestTo, upTo}
-use Rattle.inverse.specs.Asin as asin
+use Rattle.arcsine.specs.Asin as asin
 use Rattle.inverse.specs.Atan2.{angleSteps, atan2, bothFinite, octant, scaledBy}
 use Rattle.elementary.specs.Range.{inRange}
 use Rattle.motion.specs.Vessel.{difference, directionOf, offset, relativeVelocity, resolved, unit, velocity}

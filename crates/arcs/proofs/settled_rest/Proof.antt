@@ -1,9 +1,9 @@
-use mathlib.Core.Path.{refl, sym}
+use mathlib.Core.Path.{sym}
 use mathlib.Core.Bool.{true≢false}
-use Prim.Native.Nat.{_*_, _/_, _^_}
-use native.Mathlib.Nat.{le-trans, div-le-self, sub-le}
+use Prim.Native.Nat.{_*_, _/_}
+use native.Mathlib.Nat.{le-trans, div-le-self}
 use native.Mathlib.Omega.{arith}
-use Rattle.arcs.proofs.Checks.{square-small, square-pos, rest-is, rest-here, rest-next}
+use Rattle.arcs.proofs.Checks.{square-small, square-pos, rest-next, rest-settled, rest-value}
 use borrow.Author.Needs.{needs}
 use Rattle.arcs.proofs.settled_rest.Statement.{statement}
 use Rattle.arcs.proofs.settled_rest.Tie as tie
@@ -54,7 +54,7 @@ add-if2-2 : tie.Need-add-if2-2
 add-if2-2 c = search needs
 
 returns-2 : tie.Need-returns-2
-returns-2 c = λ _. rest-here (c .before .before .before .before .before .before .args .e) (c .before .before .before .before .before .before .args .f) (c .before .before .before .before .before .before .args .a) _ _ _ _ (c .before .before .before .before .before .before .pre .0) (c .before .before .before .before .before .before .pre .3) (c .before .before .before .before .before .product .ensures .0 (omega arith) (omega arith)) refl (le-trans (div-le-self (c .before .before .before .before .before .product .result) (c .before .before .before .before .before .before .args .f * c .before .before .before .before .before .before .args .f)) (omega (arith, c .before .before .before .before .before .product .ensures .3))) (rest-is (c .before .before .before .before .before .before .args .f) (c .before .before .before .before .before .before .args .a) _ _ _ _ refl (c .before .before .before .before .before .product .ensures .0 (omega arith) (omega arith)) (c .before .before .before .before .cosine-series .ensures .0 (le-trans (div-le-self (c .before .before .before .before .before .product .result) (c .before .before .before .before .before .before .args .f * c .before .before .before .before .before .before .args .f)) (omega (arith, c .before .before .before .before .before .product .ensures .3)))) (c .before .before .before .product2 .ensures .0 (omega (arith, c .before .before .before .before .before .product .ensures .3)) (c .before .before .before .before .cosine-series .ensures .2))) (c .before .product3 .ensures .0 (omega arith) (sub-le (2 ^ 58) _)) (c .before .before .if1 .left) (c .if2 .taken)
+returns-2 c = λ _. rest-settled (c .before .before .before .before .before .before .args .a) _ (c .before .before .before .before .before .before .pre .3) (c .before .before .before .before .before .product .ensures) (c .before .before .before .before .before .before .args .e) (c .before .before .before .before .before .before .args .f) _ _ _ (c .before .before .before .before .before .before .pre .0) (c .before .before .before .before .cosine-series .ensures) (c .before .before .before .product2 .ensures) (c .before .product3 .ensures) (c .before .before .if1 .left) (c .if2 .taken)
 
 add-rest-at : tie.Need-add-rest-at
 add-rest-at c = search needs
@@ -63,7 +63,7 @@ rest-at-requires : tie.Need-rest-at-requires
 rest-at-requires c κs = search needs
 
 returns-3 : tie.Need-returns-3
-returns-3 c = λ h. rest-next (c .before .before .before .before .before .before .before .args .e) (c .before .before .before .before .before .before .before .args .f) (c .before .before .before .before .before .before .before .args .a) _ _ (c .before .before .before .before .before .before .before .pre .3) (rest-is (c .before .before .before .before .before .before .before .args .f) (c .before .before .before .before .before .before .before .args .a) _ _ _ _ refl (c .before .before .before .before .before .before .product .ensures .0 (omega arith) (omega arith)) (c .before .before .before .before .before .cosine-series .ensures .0 (le-trans (div-le-self (c .before .before .before .before .before .before .product .result) (c .before .before .before .before .before .before .before .args .f * c .before .before .before .before .before .before .before .args .f)) (omega (arith, c .before .before .before .before .before .before .product .ensures .3)))) (c .before .before .before .before .product2 .ensures .0 (omega (arith, c .before .before .before .before .before .before .product .ensures .3)) (c .before .before .before .before .before .cosine-series .ensures .2))) (c .before .before .before .if1 .left) (c .rest-at .ensures .0) h
+returns-3 c = λ h. rest-next (c .before .before .before .before .before .before .before .args .e) (c .before .before .before .before .before .before .before .args .f) (c .before .before .before .before .before .before .before .args .a) _ _ (c .before .before .before .before .before .before .before .pre .3) (rest-value (c .before .before .before .before .before .before .before .args .a) _ (c .before .before .before .before .before .before .before .pre .3) (c .before .before .before .before .before .before .product .ensures) (c .before .before .before .before .before .before .before .args .f) _ _ (c .before .before .before .before .before .cosine-series .ensures) (c .before .before .before .before .product2 .ensures)) (c .before .before .before .if1 .left) (c .rest-at .ensures .0) h
 
 pub settled-rest-spec : {M : Type 1} → statement M
 settled-rest-spec =

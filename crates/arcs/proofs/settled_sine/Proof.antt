@@ -1,7 +1,6 @@
-use mathlib.Core.Path.{refl, sym}
+use mathlib.Core.Path.{sym}
 use mathlib.Core.Bool.{true≢false}
-use native.Mathlib.Omega.{arith}
-use Rattle.arcs.proofs.Checks.{sine-is, sine-here, sine-next}
+use Rattle.arcs.proofs.Checks.{sine-next, sine-settled, sine-of}
 use borrow.Author.Needs.{needs}
 use Rattle.arcs.proofs.settled_sine.Statement.{statement}
 use Rattle.arcs.proofs.settled_sine.Tie as tie
@@ -28,7 +27,7 @@ sub-if2 : tie.Need-sub-if2
 sub-if2 c = search needs
 
 returns-2 : tie.Need-returns-2
-returns-2 c = λ _. sine-here (c .before .before .before .before .before .args .x) (c .before .before .before .before .before .args .a) _ _ (c .before .before .before .before .before .pre .1) (c .before .before .before .before .product .ensures .0 (omega arith) (omega arith)) (sine-is (c .before .before .before .before .before .args .a) _ _ _ _ refl (c .before .before .before .before .product .ensures .0 (omega arith) (omega arith)) (c .before .before .before .sine-series .ensures .0 (omega (arith, c .before .before .before .before .product .ensures .3))) (c .before .before .product2 .ensures .0 (omega arith) (c .before .before .before .sine-series .ensures .2))) (c .before .if1 .left) (c .if2 .taken)
+returns-2 c = λ _. sine-settled (c .before .before .before .before .before .args .a) _ (c .before .before .before .before .before .pre .1) (c .before .before .before .before .product .ensures) (c .before .before .before .before .before .args .x) _ _ (c .before .before .before .sine-series .ensures) (c .before .before .product2 .ensures) (c .before .if1 .left) (c .if2 .taken)
 
 add-sine-at : tie.Need-add-sine-at
 add-sine-at c = search needs
@@ -37,7 +36,7 @@ sine-at-requires : tie.Need-sine-at-requires
 sine-at-requires c κs = search needs
 
 returns-3 : tie.Need-returns-3
-returns-3 c = λ h. sine-next (c .before .before .before .before .before .before .args .x) (c .before .before .before .before .before .before .args .a) _ _ (c .before .before .before .before .before .before .pre .1) (sine-is (c .before .before .before .before .before .before .args .a) _ _ _ _ refl (c .before .before .before .before .before .product .ensures .0 (omega arith) (omega arith)) (c .before .before .before .before .sine-series .ensures .0 (omega (arith, c .before .before .before .before .before .product .ensures .3))) (c .before .before .before .product2 .ensures .0 (omega arith) (c .before .before .before .before .sine-series .ensures .2))) (c .before .before .if1 .left) (c .sine-at .ensures .0) h
+returns-3 c = λ h. sine-next (c .before .before .before .before .before .before .args .x) (c .before .before .before .before .before .before .args .a) _ _ (c .before .before .before .before .before .before .pre .1) (sine-of (c .before .before .before .before .before .before .args .a) _ (c .before .before .before .before .before .before .pre .1) (c .before .before .before .before .before .product .ensures) _ _ (c .before .before .before .before .sine-series .ensures) (c .before .before .before .product2 .ensures)) (c .before .before .if1 .left) (c .sine-at .ensures .0) h
 
 pub settled-sine-spec : {M : Type 1} → statement M
 settled-sine-spec =

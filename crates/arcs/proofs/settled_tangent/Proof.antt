@@ -1,9 +1,6 @@
-use Prim.Native.Nat.{_^_}
-use native.Mathlib.Nat.{sub-le}
-use native.Mathlib.Omega.{arith}
-use mathlib.Core.Path.{refl, sym}
+use mathlib.Core.Path.{sym}
 use mathlib.Core.Bool.{true≢false}
-use Rattle.arcs.proofs.Checks.{sine-is, cosine-is, tangent-here, tangent-next}
+use Rattle.arcs.proofs.Checks.{tangent-settled, tangent-settled-next}
 use borrow.Author.Needs.{needs}
 use Rattle.arcs.proofs.settled_tangent.Statement.{statement}
 use Rattle.arcs.proofs.settled_tangent.Tie as tie
@@ -60,7 +57,7 @@ add-if2-2 : tie.Need-add-if2-2
 add-if2-2 c = search needs
 
 returns-2 : tie.Need-returns-2
-returns-2 c = λ _. tangent-here (c .before .before .before .before .before .before .before .before .before .before .before .args .u) (c .before .before .before .before .before .before .before .before .before .before .before .args .w) (c .before .before .before .before .before .before .before .before .before .before .before .args .a) _ _ _ _ _ _ _ (c .before .before .before .before .before .before .before .before .before .before .before .pre .0) (c .before .before .before .before .before .before .before .before .before .before .before .pre .1) (c .before .before .before .before .before .before .before .before .before .before .before .pre .2) (c .before .before .before .before .before .before .before .before .before .before .product .ensures .0 (omega arith) (omega arith)) (omega (arith, c .before .before .before .before .before .before .before .before .before .before .product .ensures .3)) (sine-is (c .before .before .before .before .before .before .before .before .before .before .before .args .a) _ _ _ _ refl (c .before .before .before .before .before .before .before .before .before .before .product .ensures .0 (omega arith) (omega arith)) (c .before .before .before .before .before .before .before .before .before .sine-series .ensures .0 (omega (arith, c .before .before .before .before .before .before .before .before .before .before .product .ensures .3))) (c .before .before .before .before .before .before .before .before .product2 .ensures .0 (omega arith) (c .before .before .before .before .before .before .before .before .before .sine-series .ensures .2))) (cosine-is (c .before .before .before .before .before .before .before .before .before .before .before .args .a) _ _ _ _ refl (c .before .before .before .before .before .before .before .before .before .before .product .ensures .0 (omega arith) (omega arith)) (c .before .before .before .before .before .before .before .cosine-series .ensures .0 (omega (arith, c .before .before .before .before .before .before .before .before .before .before .product .ensures .3))) (c .before .before .before .before .before .before .product3 .ensures .0 (omega (arith, c .before .before .before .before .before .before .before .before .before .before .product .ensures .3)) (c .before .before .before .before .before .before .before .cosine-series .ensures .2))) (c .before .before .before .before .before .product4 .ensures .0 (c .before .before .before .before .before .before .before .before .before .before .before .pre .0) (omega (arith, c .before .before .before .before .before .before .before .before .product2 .ensures .3, c .before .before .before .before .before .before .before .before .before .sine-series .ensures .2))) (c .before .before .before .before .product5 .ensures .0 (c .before .before .before .before .before .before .before .before .before .before .before .pre .1) (sub-le (2 ^ 58) _)) (c .before .before .product6 .ensures .0 (c .before .before .before .before .before .before .before .before .before .before .before .pre .0) (sub-le (2 ^ 58) _)) (c .before .product7 .ensures .0 (c .before .before .before .before .before .before .before .before .before .before .before .pre .1) (omega arith)) (c .before .before .before .if1 .left) (c .if2 .taken)
+returns-2 c = λ _. tangent-settled (c .before .before .before .before .before .before .before .before .before .before .before .args .a) _ (c .before .before .before .before .before .before .before .before .before .before .before .pre .2) (c .before .before .before .before .before .before .before .before .before .before .product .ensures) _ _ _ _ _ _ _ _ (c .before .before .before .before .before .before .before .before .before .before .before .pre .0) (c .before .before .before .before .before .before .before .before .before .before .before .pre .1) (c .before .before .before .before .before .before .before .before .before .sine-series .ensures) (c .before .before .before .before .before .before .before .before .product2 .ensures) (c .before .before .before .before .before .before .before .cosine-series .ensures) (c .before .before .before .before .before .before .product3 .ensures) (c .before .before .before .before .before .product4 .ensures) (c .before .before .before .before .product5 .ensures) (c .before .before .before .if1 .left) _ _ (c .before .before .product6 .ensures) (c .before .product7 .ensures) (c .if2 .taken)
 
 add-under : tie.Need-add-under
 add-under c = search needs
@@ -69,7 +66,7 @@ under-requires : tie.Need-under-requires
 under-requires c κs = search needs
 
 returns-3 : tie.Need-returns-3
-returns-3 c = λ e. tangent-next (c .before .before .before .before .before .before .before .before .before .before .before .before .args .u) (c .before .before .before .before .before .before .before .before .before .before .before .before .args .w) (c .before .before .before .before .before .before .before .before .before .before .before .before .args .a) _ _ _ _ _ (c .before .before .before .before .before .before .before .before .before .before .before .before .pre .2) (sine-is (c .before .before .before .before .before .before .before .before .before .before .before .before .args .a) _ _ _ _ refl (c .before .before .before .before .before .before .before .before .before .before .before .product .ensures .0 (omega arith) (omega arith)) (c .before .before .before .before .before .before .before .before .before .before .sine-series .ensures .0 (omega (arith, c .before .before .before .before .before .before .before .before .before .before .before .product .ensures .3))) (c .before .before .before .before .before .before .before .before .before .product2 .ensures .0 (omega arith) (c .before .before .before .before .before .before .before .before .before .before .sine-series .ensures .2))) (cosine-is (c .before .before .before .before .before .before .before .before .before .before .before .before .args .a) _ _ _ _ refl (c .before .before .before .before .before .before .before .before .before .before .before .product .ensures .0 (omega arith) (omega arith)) (c .before .before .before .before .before .before .before .before .cosine-series .ensures .0 (omega (arith, c .before .before .before .before .before .before .before .before .before .before .before .product .ensures .3))) (c .before .before .before .before .before .before .before .product3 .ensures .0 (omega (arith, c .before .before .before .before .before .before .before .before .before .before .before .product .ensures .3)) (c .before .before .before .before .before .before .before .before .cosine-series .ensures .2))) (c .before .before .before .before .before .before .product4 .ensures .0 (c .before .before .before .before .before .before .before .before .before .before .before .before .pre .0) (omega (arith, c .before .before .before .before .before .before .before .before .before .product2 .ensures .3, c .before .before .before .before .before .before .before .before .before .before .sine-series .ensures .2))) (c .before .before .before .before .before .product5 .ensures .0 (c .before .before .before .before .before .before .before .before .before .before .before .before .pre .1) (sub-le (2 ^ 58) _)) (c .before .before .before .before .if1 .left) (c .under .ensures) e
+returns-3 c = λ e. tangent-settled-next (c .before .before .before .before .before .before .before .before .before .before .before .before .args .a) _ (c .before .before .before .before .before .before .before .before .before .before .before .before .pre .2) (c .before .before .before .before .before .before .before .before .before .before .before .product .ensures) _ _ _ _ _ _ _ _ (c .before .before .before .before .before .before .before .before .before .before .before .before .pre .0) (c .before .before .before .before .before .before .before .before .before .before .before .before .pre .1) (c .before .before .before .before .before .before .before .before .before .before .sine-series .ensures) (c .before .before .before .before .before .before .before .before .before .product2 .ensures) (c .before .before .before .before .before .before .before .before .cosine-series .ensures) (c .before .before .before .before .before .before .before .product3 .ensures) (c .before .before .before .before .before .before .product4 .ensures) (c .before .before .before .before .before .product5 .ensures) (c .before .before .before .before .if1 .left) _ (c .under .ensures) e
 
 pub settled-tangent-spec : {M : Type 1} → statement M
 settled-tangent-spec =

@@ -1,7 +1,7 @@
 use mathlib.Core.Path.{sym, subst}
 use lib.Dec.{T}
-use Rattle.inverse.specs.Asin.{IsAsin}
-use Rattle.inverse.proofs.Arcsines.{arcsine-is}
+use Rattle.arcsine.specs.Asin.{IsAsin}
+use Rattle.arcsine.proofs.Arcsines.{arcsine-is}
 use borrow.Author.Needs.{needs}
 use Rattle.exports_elementary.proofs.elementary_asin.Statement.{statement}
 use Rattle.exports_elementary.proofs.elementary_asin.Tie as tie

@@ -1,0 +1,2 @@
+-- Laws on the arcsine of f64s.
+pub mod Arcsines

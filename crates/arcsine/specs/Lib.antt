@@ -1,0 +1,2 @@
+-- Arcsine of f64s.
+pub mod Asin

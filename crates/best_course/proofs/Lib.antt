@@ -1,0 +1,2 @@
+-- What the code of the offers owes.
+pub mod Offers

@@ -1,0 +1,2 @@
+-- The best course of each side.
+pub mod Offers

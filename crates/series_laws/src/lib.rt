@@ -1,0 +1,1 @@
+// What is proved of the sums beyond the contracts of `series`: proofs/.

@@ -1,0 +1,2 @@
+-- The fields of the line on a turn.
+pub mod Fields
