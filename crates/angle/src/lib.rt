@@ -11,7 +11,7 @@ const HALF_TURN: f64 = 180.0;
 pub fn wrap360(degrees: f64) -> f64
     ensures { λ r. ⌜ r ≡ Fold.wholeFold degrees ⌝ }
 {
-    let rest = degrees % FULL_TURN;
+    let rest = turns::remainder(degrees);
     let turned = not_below_zero(rest);
     if turned == FULL_TURN {
         return 0.0;

@@ -1,0 +1,2 @@
+-- Laws on the remainder by a full turn.
+pub mod Laws

@@ -1,0 +1,2 @@
+-- The remainder by a full turn.
+pub mod Turns
