@@ -5,7 +5,7 @@ cd "$(dirname "$0")/.."
 
 rt staticlib exports_report
 mkdir -p target/examples
-cc -std=c11 -Wall -Wextra -Werror -O2 -Iinclude -o target/examples/report examples/report.c target/staticlib/libexports_report.a -lm
+cc -std=c11 -Wall -Wextra -Werror -O2 -Iinclude -o target/examples/report examples/report.c target/staticlib/libexports_report.a
 cargo build --quiet --release --manifest-path examples/rust/Cargo.toml --target-dir target/examples/rust
 
 for program in target/examples/report target/examples/rust/release/encounter-report; do

@@ -1,7 +1,6 @@
 /* The encounter module's C interface: the report on an encounter sheet.
  *
- * Link with the archive that `rt staticlib exports_report` writes (target/staticlib/libexports_report.a) and with the C library's
- * mathematics (-lm: the remainder `fmod`).
+ * Link with the archive that `rt staticlib exports_report` writes (target/staticlib/libexports_report.a). Nothing else is needed.
  */
 #ifndef ENCOUNTER_H
 #define ENCOUNTER_H
