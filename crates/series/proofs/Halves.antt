@@ -55,6 +55,31 @@ product a b = carry (a1 * b1) (a1 * b0 + a0 * b1) (a0 * b0) ∙ ap (λ x. x / 2 
 pub product-le : (z q : ℕ) → z ≤ 2 ^ 58 → z * q / 2 ^ 58 ≤ q
 product-le z q h = div-le-of-le-mul (2 ^ 58) (omega (arith, mul-le-mul h (le-refl q)))
 
+-- with a factor of few digits two columns are enough
+pub two-columns : (z q : ℕ) → (z / 2 ^ 29 * q + z % 2 ^ 29 * q / 2 ^ 29) / 2 ^ 29 ≡ z * q / 2 ^ 58
+two-columns z q = cut (z / 2 ^ 29 * q) (z % 2 ^ 29 * q) ∙ ap (λ x. x / 2 ^ 58) (join (z / 2 ^ 29) (z % 2 ^ 29) q ∙ ap (λ x. x * q) (back z))
+  where
+    cut : (m w : ℕ) → (m + w / 2 ^ 29) / 2 ^ 29 ≡ (2 ^ 29 * m + w) / 2 ^ 58
+    cut m w = omega arith
+
+    join : (z1 z0 q : ℕ) → 2 ^ 29 * (z1 * q) + z0 * q ≡ (2 ^ 29 * z1 + z0) * q
+    join z1 z0 q = omega arith
+
+    back : (x : ℕ) → 2 ^ 29 * (x / 2 ^ 29) + x % 2 ^ 29 ≡ x
+    back x = omega arith
+
+pub small-top : (z q : ℕ) → z ≤ 2 ^ 58 → q ≤ 2 ^ 33 → z / 2 ^ 29 * q ≤ 2 ^ 62
+small-top z q hz hq = omega (arith, mul-le-mul top hq)
+  where
+    top : z / 2 ^ 29 ≤ 2 ^ 29
+    top = omega arith
+
+pub small-low : (z q : ℕ) → q ≤ 2 ^ 33 → z % 2 ^ 29 * q ≤ 2 ^ 62
+small-low z q hq = omega (arith, mul-le-mul low hq)
+  where
+    low : z % 2 ^ 29 ≤ 2 ^ 29
+    low = omega arith
+
 -- ---- Horner's rule, without the coefficients that are 0
 last : (c z : ℕ) → c - z * 0 / 2 ^ 58 ≡ c
 last c z = omega arith

@@ -47,6 +47,17 @@ fn step(z: u64, q: u64, c: u64) -> u64
     c - mul58(z, q)
 }
 
+// The same where q has at most 33 bits, which leaves two columns of the product.
+fn small_step(z: u64, q: u64, c: u64) -> u64
+    requires { ⌜ (z ≤ 2 ^ 58) × (q ≤ 2 ^ 33) × (q ≤ c) ⌝ }
+    ensures { λ r. ⌜ (r ≡ c - z * q / 2 ^ 58) × (r ≤ c) ⌝ }
+{
+    let z1 = z / HALF;
+    let z0 = z % HALF;
+    let product = (z1 * q + z0 * q / HALF) / HALF;
+    c - product
+}
+
 // 1 - z / 3! + z^2 / 5! - ...: the coefficients are ONE / 19!, ONE / 17!, ...; ONE / 21! is no whole unit. 0 for a z above one.
 pub fn sine_series(z: u64) -> u64
     ensures { λ r. ⌜ (z ≤ 2 ^ 58 → r ≡ horner (2 ^ 58) z 1 sineDivisors) × (2 ^ 58 < z → r ≡ 0) × (r ≤ 2 ^ 58) ⌝ }
@@ -54,11 +65,11 @@ pub fn sine_series(z: u64) -> u64
     if z > ONE {
         return 0;
     }
-    let q8 = step(z, 2, 810);
-    let q7 = step(z, q8, 220414);
-    let q6 = step(z, q7, 46287042);
-    let q5 = step(z, q6, 7220778623);
-    let q4 = step(z, q5, 794285648566);
+    let q8 = small_step(z, 2, 810);
+    let q7 = small_step(z, q8, 220414);
+    let q6 = small_step(z, q7, 46287042);
+    let q5 = small_step(z, q6, 7220778623);
+    let q4 = small_step(z, q5, 794285648566);
     let q3 = step(z, q4, 57188566696768);
     let q2 = step(z, q3, 2401919801264264);
     let q1 = step(z, q2, 48038396025285290);
@@ -72,10 +83,10 @@ pub fn cosine_series(z: u64) -> u64
     if ONE < z {
         return 0;
     }
-    let q7 = step(z, 90, 27551);
-    let q6 = step(z, q7, 6612434);
-    let q5 = step(z, q6, 1203463103);
-    let q4 = step(z, q5, 158857129713);
+    let q7 = small_step(z, 90, 27551);
+    let q6 = small_step(z, q7, 6612434);
+    let q5 = small_step(z, q6, 1203463103);
+    let q4 = small_step(z, q5, 158857129713);
     let q3 = step(z, q4, 14297141674192);
     let q2 = step(z, q3, 800639933754754);
     let q1 = step(z, q2, 24019198012642645);
