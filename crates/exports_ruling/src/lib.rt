@@ -8,11 +8,11 @@ ghost use mathlib.Core.Path.{_≡_};
 ghost use Rattle.situation.specs.Situation as Parties;
 ghost use Rattle.colregs.specs.Colregs as Colregs;
 ghost use Rattle.exports_ruling.specs.Words as Spec;
+use codes::category;
 use motion::units::Angle;
 use ruling_words::ruling_words;
 use ruling_words::word;
 use situation::config::ColregsConfig;
-use situation_codes::category;
 use situation_codes::situation;
 
 #[no_mangle]

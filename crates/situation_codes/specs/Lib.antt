@@ -1,2 +1,2 @@
 -- Situations from codes.
-pub mod Codes
+pub mod Situations

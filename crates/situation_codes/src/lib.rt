@@ -3,81 +3,21 @@
 // `codes`, from the low bits: own category and the target's (three each), and one each for visibility, own heading, the target's heading
 // and the wind.
 ghost use mathlib.Core.Path.{_≡_};
-ghost use Rattle.situation_codes.specs.Codes as Spec;
+ghost use Rattle.situation_codes.specs.Situations as Spec;
 use motion::units::Direction;
-use motion::units::Distance;
-use motion::units::Speed;
-use motion::vessel::Contact;
-use motion::vessel::Vessel;
 use situation::party::Party;
 use situation::party::Situation;
-use situation::party::Tack;
-use situation::party::VesselCategory;
-use situation::party::Visibility;
-
-pub fn category(code: u32) -> VesselCategory
-    ensures { λ r. ⌜ r ≡ Spec.category code ⌝ }
-{
-    if code == 0 {
-        return VesselCategory::PowerDriven;
-    }
-    if code == 1 {
-        return VesselCategory::Sailing { tack: Tack::Port };
-    }
-    if code == 2 {
-        return VesselCategory::Sailing {
-            tack: Tack::Starboard,
-        };
-    }
-    if code == 3 {
-        return VesselCategory::Sailing {
-            tack: Tack::Unknown,
-        };
-    }
-    if code == 4 {
-        return VesselCategory::Fishing;
-    }
-    if code == 5 {
-        return VesselCategory::ConstrainedByDraught;
-    }
-    if code == 6 {
-        return VesselCategory::RestrictedInAbilityToManoeuvre;
-    }
-    VesselCategory::NotUnderCommand
-}
-
-fn visibility(code: u32) -> Visibility
-    ensures { λ r. ⌜ r ≡ Spec.visibility code ⌝ }
-{
-    if code == 0 {
-        return Visibility::InSight;
-    }
-    Visibility::Restricted
-}
-
-fn party(code: u32, known: u32, course: f64, speed: f64, heading: f64) -> Party
-    ensures { λ r. ⌜ r ≡ Spec.party code known course speed heading ⌝ }
-{
-    let motion = Vessel {
-        course: Direction(course),
-        speed: Speed(speed),
-    };
-    let party = Party::new(motion, category(code));
-    if known == 0 {
-        return party;
-    }
-    party.with_heading(Direction(heading))
-}
 
 // The situation in which the two meet, before the wind is said.
 fn meeting(own: Party, target: Party, bearing: f64, range: f64, code: u32) -> Situation
     ensures { λ r. ⌜ r ≡ Spec.meeting own target bearing range code ⌝ }
 {
-    let contact = Contact {
-        bearing: Direction(bearing),
-        range: Distance(range),
-    };
-    Situation::new(own, target, contact, visibility(code))
+    Situation::new(
+        own,
+        target,
+        words::contact(bearing, range),
+        codes::visibility(code),
+    )
 }
 
 fn with_wind(s: Situation, known: u32, from: f64) -> Situation
@@ -89,6 +29,8 @@ fn with_wind(s: Situation, known: u32, from: f64) -> Situation
     s.with_wind_from(Direction(from))
 }
 
+// The situation of two parties, the contact's bearing and range, and the wind. Angles are in degrees, speeds in knots, the range in
+// nautical miles.
 pub fn situation(
     codes: u32,
     oc: f64,
@@ -103,8 +45,8 @@ pub fn situation(
 ) -> Situation
     ensures { λ r. ⌜ r ≡ Spec.situation codes oc os oh bearing range tc ts th wind ⌝ }
 {
-    let own = party(codes % 8, codes / 128 % 2, oc, os, oh);
-    let target = party(codes / 8 % 8, codes / 256 % 2, tc, ts, th);
+    let own = codes::party(codes % 8, codes / 128 % 2, oc, os, oh);
+    let target = codes::party(codes / 8 % 8, codes / 256 % 2, tc, ts, th);
     with_wind(
         meeting(own, target, bearing, range, codes / 64 % 2),
         codes / 512 % 2,

@@ -1,5 +1,5 @@
 use mathlib.Core.Path.{refl}
-use Rattle.situation_codes.specs.Codes.{situation}
+use Rattle.situation_codes.specs.Situations.{situation}
 use borrow.Author.Needs.{needs}
 use Rattle.situation_codes.proofs.situation.Statement.{statement}
 use Rattle.situation_codes.proofs.situation.Tie as tie

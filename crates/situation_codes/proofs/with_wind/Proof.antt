@@ -1,6 +1,6 @@
 use borrow.Author.Tests.{eq-eqb, ne-eqb}
 use mathlib.Core.Path.{refl}
-use Rattle.situation_codes.specs.Codes.{withWind}
+use Rattle.situation_codes.specs.Situations.{withWind}
 use borrow.Author.Needs.{needs}
 use Rattle.situation_codes.proofs.with_wind.Statement.{statement}
 use Rattle.situation_codes.proofs.with_wind.Tie as tie
