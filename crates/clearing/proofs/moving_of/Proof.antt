@@ -1,3 +1,4 @@
+use mathlib.Core.Path.{refl}
 use Rattle.clearing.specs.Clearing.{moving}
 use borrow.Author.Needs.{needs}
 use Rattle.clearing.proofs.moving_of.Statement.{statement}
@@ -11,7 +12,7 @@ velocity-requires c κs = search needs
 
 returns : tie.Need-returns
 unfolding moving
-returns c = cc
+returns c = rw (c .velocity .ensures, c .before .offset .ensures) refl
 
 pub moving-of-spec : {M : Type 1} → statement M
 moving-of-spec = tie.close (tie.spec offset-requires velocity-requires returns)
