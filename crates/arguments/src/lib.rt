@@ -46,6 +46,7 @@ pub fn unless(good: bool, why: Refusal, rest: Verdict) -> Verdict
     Verdict::Refused(why)
 }
 
+// The course (number 1), the speed (2), then what the checks after them say.
 pub fn check_vessel(v: Vessel, rest: Verdict) -> Verdict
     ensures { λ r. ⌜ r ≡ Spec.verdict (Spec.vesselChecks v) rest ⌝ }
 {
@@ -56,6 +57,7 @@ pub fn check_vessel(v: Vessel, rest: Verdict) -> Verdict
     )
 }
 
+// The bearing (number 1), the range (3), then what the checks after them say.
 pub fn check_contact(c: Contact, rest: Verdict) -> Verdict
     ensures { λ r. ⌜ r ≡ Spec.verdict (Spec.contactChecks c) rest ⌝ }
 {
@@ -66,6 +68,7 @@ pub fn check_contact(c: Contact, rest: Verdict) -> Verdict
     )
 }
 
+// The distance (number 3), then what the checks after it say.
 pub fn check_distance(d: Distance, rest: Verdict) -> Verdict
     ensures { λ r. ⌜ r ≡ Spec.verdict (Spec.distanceChecks d) rest ⌝ }
 {

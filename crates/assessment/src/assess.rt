@@ -88,12 +88,14 @@ pub fn assess(own: Vessel, contact: Contact, target: Vessel, policy: CpaPolicy) 
 }
 
 impl CollisionAssessment {
+    // The contact's range, in nautical miles.
     pub fn range(self) -> Distance
         ensures { λ r. ⌜ r ≡ self .range ⌝ }
     {
         self.range
     }
 
+    // The contact's true bearing, in degrees.
     pub fn bearing(self) -> Direction
         ensures { λ r. ⌜ r ≡ self .bearing ⌝ }
     {
@@ -107,24 +109,28 @@ impl CollisionAssessment {
         self.relative_course
     }
 
+    // How fast the echo moves, in knots.
     pub fn relative_speed(self) -> Speed
         ensures { λ r. ⌜ r ≡ self .«relative_speed» ⌝ }
     {
         self.relative_speed
     }
 
+    // How fast the bearing draws, in degrees per minute, positive to the right.
     pub fn bearing_drift(self) -> RateOfTurn
         ensures { λ r. ⌜ r ≡ self .«bearing_drift» ⌝ }
     {
         self.bearing_drift
     }
 
+    // The closest approach, where the range closes.
     pub fn cpa(self) -> PerhapsCpa
         ensures { λ r. ⌜ r ≡ self .cpa ⌝ }
     {
         self.cpa
     }
 
+    // The distance of the closest approach, where the range closes.
     pub fn cpa_distance(self) -> PerhapsDistance
         ensures { λ r. ⌜ r ≡ Spec.distanceIn (self .cpa) ⌝ }
     {
@@ -138,6 +144,7 @@ impl CollisionAssessment {
         }
     }
 
+    // The time to the closest approach, where the range closes.
     pub fn tcpa(self) -> PerhapsTime
         ensures { λ r. ⌜ r ≡ Spec.timeIn (self .cpa) ⌝ }
     {
@@ -151,6 +158,7 @@ impl CollisionAssessment {
         }
     }
 
+    // The true bearing at the closest approach, where the range closes.
     pub fn bearing_at_cpa(self) -> PerhapsBearing
         ensures { λ r. ⌜ r ≡ Spec.bearingIn (self .cpa) ⌝ }
     {
@@ -171,6 +179,7 @@ impl CollisionAssessment {
         self.bow_crossing
     }
 
+    // The risk against the policy's limits.
     pub fn risk(self) -> CollisionRisk
         ensures { λ r. ⌜ r ≡ self .risk ⌝ }
     {

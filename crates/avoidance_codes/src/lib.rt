@@ -25,6 +25,7 @@ pub fn permitted_sides(code: u32) -> PermittedSides
     PermittedSides::Port
 }
 
+// Constraints, with a rate of turn where `known` is not 0; the first refusal that making them meets.
 pub fn constraints_of(sides: u32, least: f64, most: f64, known: u32, rate: f64) -> ConstraintsAnswer
     ensures { λ r. ⌜ r ≡ Spec.constraintsOf sides least most known rate ⌝ }
 {
@@ -69,6 +70,7 @@ fn place_of(wide: bool, i: usize) -> usize
     5 + 4 * i
 }
 
+// The first `count` contacts of a list of floats, at most MAX_CONTACTS; the count is kept as it is.
 pub fn traffic_of(wide: bool, count: usize, floats: &[f64]) -> Traffic
     ensures counted { λ r. ⌜ r .count ≡ count ⌝ }
     ensures listed { λ r. ⌜ Around.contacts r ≡ Spec.entries wide (now (floats .entry)) count ⌝ }

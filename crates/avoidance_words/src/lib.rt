@@ -5,6 +5,7 @@ use manoeuvre::answer::Limiting;
 use manoeuvre::answer::Side;
 use manoeuvre::answer::TurnTime;
 
+// 0 starboard, 1 port.
 pub fn side_word(side: Side) -> u64
     ensures { λ r. ⌜ r ≡ Spec.sideWord side ⌝ }
 {
@@ -14,6 +15,7 @@ pub fn side_word(side: Side) -> u64
     }
 }
 
+// The contact's place plus 1, or 0 for nobody.
 pub fn limiting_word(limiting: Limiting) -> u64
     ensures { λ r. ⌜ r ≡ Spec.limitingWord limiting ⌝ }
 {

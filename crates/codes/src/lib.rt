@@ -30,6 +30,8 @@ pub fn word_at(words: [u64; 9], part: u32) -> u64
     0
 }
 
+// 0 power-driven, 1 sailing on the port tack, 2 on the starboard tack, 3 on an unknown tack, 4 fishing, 5 constrained by her draught, 6
+// restricted in her ability to manoeuvre; any other code is not under command.
 pub fn category(code: u32) -> VesselCategory
     ensures { λ r. ⌜ r ≡ Spec.category code ⌝ }
 {
@@ -61,6 +63,7 @@ pub fn category(code: u32) -> VesselCategory
     VesselCategory::NotUnderCommand
 }
 
+// 0 in sight; any other code is restricted.
 pub fn visibility(code: u32) -> Visibility
     ensures { λ r. ⌜ r ≡ Spec.visibility code ⌝ }
 {
@@ -70,6 +73,7 @@ pub fn visibility(code: u32) -> Visibility
     Visibility::Restricted
 }
 
+// A direction, unknown where `known` is 0.
 pub fn perhaps(known: u32, degrees: f64) -> Perhaps
     ensures { λ r. ⌜ r ≡ Spec.perhaps known degrees ⌝ }
 {
@@ -79,6 +83,7 @@ pub fn perhaps(known: u32, degrees: f64) -> Perhaps
     Perhaps::Known(Direction(degrees))
 }
 
+// A vessel in an encounter, with a heading where `known` is not 0.
 pub fn party(code: u32, known: u32, course: f64, speed: f64, heading: f64) -> Party
     ensures { λ r. ⌜ r ≡ Spec.party code known course speed heading ⌝ }
 {

@@ -64,6 +64,7 @@ fn side_of(f: Facts) -> Side
     Side::Port
 }
 
+// Overtaking before being overtaken, head-on next, else crossing (Rules 13 to 15).
 pub fn encounter_of(config: ColregsConfig, f: Facts) -> Encounter
     ensures { λ r. ⌜ r ≡ Spec.encounterOf config f ⌝ }
 {

@@ -95,6 +95,7 @@ fn windward_of(contact: Contact, wind: Perhaps) -> Windward
     }
 }
 
+// The facts of a situation, from the bearing, the headings and the velocities.
 pub fn facts_of(s: Situation) -> Facts
     ensures { λ r. ⌜ r ≡ Spec.factsOf s ⌝ }
 {

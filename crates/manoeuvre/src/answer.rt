@@ -52,6 +52,7 @@ fn turned(magnitude: f64, rate: RateOfTurn) -> TurnTime
     in_time(time::duration_from_secs(magnitude / rate.0 * 60.0))
 }
 
+// The time that a turn of a magnitude in degrees takes at a rate.
 pub fn turn_time(magnitude: f64, rate: PerhapsRate) -> TurnTime
     ensures { λ r. ⌜ r ≡ Spec.turnTime magnitude rate ⌝ }
 {
@@ -62,6 +63,7 @@ pub fn turn_time(magnitude: f64, rate: PerhapsRate) -> TurnTime
 }
 
 impl AvoidanceManoeuvre {
+    // A manoeuvre of its parts.
     pub fn new(
         course: Direction,
         alteration: Angle,
@@ -80,12 +82,14 @@ impl AvoidanceManoeuvre {
         }
     }
 
+    // The new course, in degrees.
     pub fn course(self) -> Direction
         ensures { λ r. ⌜ r ≡ self .course ⌝ }
     {
         self.course
     }
 
+    // The alteration, in degrees, positive to starboard.
     pub fn alteration(self) -> Angle
         ensures { λ r. ⌜ r ≡ self .alteration ⌝ }
     {
@@ -103,18 +107,21 @@ impl AvoidanceManoeuvre {
         Side::Starboard
     }
 
+    // The time that the turn takes.
     pub fn turn_time(self) -> TurnTime
         ensures { λ r. ⌜ r ≡ self .«turn_time» ⌝ }
     {
         self.turn_time
     }
 
+    // The smallest passing distance of any contact, in nautical miles.
     pub fn least_passing(self) -> Distance
         ensures { λ r. ⌜ r ≡ self .«least_passing» ⌝ }
     {
         self.least_passing
     }
 
+    // The contact that passes at it.
     pub fn limiting(self) -> Limiting
         ensures { λ r. ⌜ r ≡ self .limiting ⌝ }
     {

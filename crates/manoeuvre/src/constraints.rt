@@ -39,6 +39,7 @@ pub enum ConstraintsAnswer {
 }
 
 impl PermittedSides {
+    // Whether an alteration to starboard is permitted.
     pub fn starboard(self) -> bool
         ensures { λ r. ⌜ r ≡ Spec.permitsStarboard self ⌝ }
     {
@@ -49,6 +50,7 @@ impl PermittedSides {
         }
     }
 
+    // Whether an alteration to port is permitted.
     pub fn port(self) -> bool
         ensures { λ r. ⌜ r ≡ Spec.permitsPort self ⌝ }
     {
@@ -60,6 +62,7 @@ impl PermittedSides {
     }
 }
 
+// The least alteration from 0 to 180 degrees, the most from there to 180, then what the checks after them say.
 pub fn check_alterations(least: Angle, most: Angle, rest: Verdict) -> Verdict
     ensures { λ r. ⌜ r ≡ Check.verdict (Spec.alterationChecks least most) rest ⌝ }
 {
@@ -108,6 +111,7 @@ fn answered(verdict: Verdict, c: ManoeuvreConstraints) -> ConstraintsAnswer
 }
 
 impl ManoeuvreConstraints {
+    // Constraints without a rate of turn, or the number of the first check that fails.
     pub fn new(sides: PermittedSides, least: Angle, most: Angle) -> ConstraintsAnswer
         ensures { λ r. ⌜ r ≡ Spec.constraintsAnswer sides least most ⌝ }
     {
@@ -137,24 +141,28 @@ impl ManoeuvreConstraints {
         answered(check_rate(size, Verdict::Accepted), c)
     }
 
+    // The sides that may be turned to.
     pub fn sides(self) -> PermittedSides
         ensures { λ r. ⌜ r ≡ self .sides ⌝ }
     {
         self.sides
     }
 
+    // The least alteration, in degrees.
     pub fn least_alteration(self) -> Angle
         ensures { λ r. ⌜ r ≡ self .«least_alteration» ⌝ }
     {
         self.least_alteration
     }
 
+    // The most alteration, in degrees.
     pub fn most_alteration(self) -> Angle
         ensures { λ r. ⌜ r ≡ self .«most_alteration» ⌝ }
     {
         self.most_alteration
     }
 
+    // The rate of turn in degrees per minute, where one is given.
     pub fn rate_of_turn(self) -> PerhapsRate
         ensures { λ r. ⌜ r ≡ self .«rate_of_turn» ⌝ }
     {

@@ -50,6 +50,7 @@ fn approach_words(a: Approach) -> Words
     }
 }
 
+// The words of a closest approach.
 pub fn cpa_words(answer: CpaAnswer) -> Words
     ensures { λ r. ⌜ r ≡ Spec.cpaWords answer ⌝ }
 {
@@ -69,6 +70,7 @@ fn pass_words(p: Pass) -> Words
     }
 }
 
+// The words of a passing: kind and distance.
 pub fn passing_words(answer: PassAnswer) -> Words
     ensures { λ r. ⌜ r ≡ Spec.passingWords answer ⌝ }
 {
@@ -92,6 +94,7 @@ fn value(x: f64) -> Words
     }
 }
 
+// The word of a bearing.
 pub fn bearing_words(answer: BearingAnswer) -> Words
     ensures { λ r. ⌜ r ≡ Spec.bearingWords answer ⌝ }
 {
@@ -101,6 +104,7 @@ pub fn bearing_words(answer: BearingAnswer) -> Words
     }
 }
 
+// The word of a bow crossing's range.
 pub fn bow_words(answer: BowAnswer) -> Words
     ensures { λ r. ⌜ r ≡ Spec.bowWords answer ⌝ }
 {

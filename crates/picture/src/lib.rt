@@ -49,6 +49,7 @@ impl CollisionPicture {
         clearing::held(self.count)
     }
 
+    // Whether no target is assessed.
     pub fn is_empty(self) -> bool
         ensures { λ r. ⌜ r ≡ eqb (length (Spec.targets self)) 0 ⌝ }
     {

@@ -32,6 +32,7 @@ pub fn check_policy(policy: CpaPolicy, rest: Verdict) -> Verdict
 }
 
 impl CpaPolicy {
+    // A policy of accepted limits, or the number of the first that is not.
     pub fn new(limit: Distance, time: Duration) -> PolicyAnswer
         ensures { λ r. ⌜ r ≡ Spec.policyAnswer limit time ⌝ }
     {
@@ -46,12 +47,14 @@ impl CpaPolicy {
         }
     }
 
+    // The limit of the closest approach's distance, in nautical miles.
     pub fn cpa_limit(self) -> Distance
         ensures { λ r. ⌜ r ≡ self .«cpa_limit» ⌝ }
     {
         self.cpa_limit
     }
 
+    // The limit of the time to it.
     pub fn tcpa_limit(self) -> Duration
         ensures { λ r. ⌜ r ≡ self .«tcpa_limit» ⌝ }
     {

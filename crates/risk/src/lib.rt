@@ -30,6 +30,7 @@ pub enum PerhapsDistance {
 }
 
 impl CollisionRisk {
+    // The place in the order of concern, 0 to 3.
     pub fn rank(self) -> u8
         ensures { λ r. ⌜ r ≡ Spec.rank self ⌝ }
     {
@@ -64,6 +65,7 @@ pub fn drift_of(range: f64, offset: Components, relative: Components) -> RateOfT
     RateOfTurn(0.0)
 }
 
+// The closest approach, where the range closes.
 pub fn nearest(a: Approach) -> PerhapsCpa
     ensures { λ r. ⌜ r ≡ Spec.nearest a ⌝ }
 {
@@ -74,6 +76,7 @@ pub fn nearest(a: Approach) -> PerhapsCpa
     }
 }
 
+// The range of a bow crossing, where there is one.
 pub fn ahead_of(answer: BowAnswer) -> PerhapsDistance
     ensures { λ r. ⌜ r ≡ Spec.aheadOf answer ⌝ }
 {
@@ -83,6 +86,7 @@ pub fn ahead_of(answer: BowAnswer) -> PerhapsDistance
     }
 }
 
+// The risk of a closest approach: outside the limit, inside it but later than the time limit, or inside both.
 pub fn risk_at(policy: CpaPolicy, cpa: Cpa) -> CollisionRisk
     ensures { λ r. ⌜ r ≡ Spec.riskAt policy cpa ⌝ }
 {
@@ -99,6 +103,7 @@ pub fn risk_at(policy: CpaPolicy, cpa: Cpa) -> CollisionRisk
     CollisionRisk::Dangerous
 }
 
+// The risk, opening where there is no closest approach to come.
 pub fn risk_of(policy: CpaPolicy, p: PerhapsCpa) -> CollisionRisk
     ensures { λ r. ⌜ r ≡ Spec.riskOf policy p ⌝ }
 {

@@ -21,6 +21,7 @@ pub struct Words {
     pub hold: u64,
 }
 
+// The word of a place, the last one for a place beyond it.
 pub fn word(w: Words, part: u32) -> u64
     ensures { λ r. ⌜ r ≡ Spec.word w part ⌝ }
 {
@@ -116,6 +117,7 @@ fn refused(why: Refusal) -> Words
     }
 }
 
+// The words of an answer.
 pub fn ruling_words(answer: RulingAnswer) -> Words
     ensures { λ r. ⌜ r ≡ Spec.rulingWords answer ⌝ }
 {

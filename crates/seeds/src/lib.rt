@@ -22,6 +22,7 @@ pub enum Seed {
     Of(f64),
 }
 
+// The courses of an answer, none on either side where it is refused.
 pub fn courses_in(answer: CourseAnswer) -> Avoidance
     ensures { λ r. ⌜ r ≡ Spec.coursesIn answer ⌝ }
 {
@@ -133,6 +134,7 @@ fn smaller_of(starboard: Choice, port: Choice) -> Choice
     }
 }
 
+// The smaller of both sides' choices, starboard on equality.
 pub fn seeded_choice(
     own: Vessel,
     scene: Scene,

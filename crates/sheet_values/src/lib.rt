@@ -99,6 +99,7 @@ pub fn own_of(h: Header) -> Party
     party_of(h.course, h.speed, h.category)
 }
 
+// A contact of a sheet; she heads where she goes.
 pub fn entry_of(row: Row) -> Entry
     ensures { λ r. ⌜ r ≡ Spec.entryOf row ⌝ }
 {

@@ -10,6 +10,7 @@ use arguments::Verdict;
 use elementary::error::Refusal;
 use motion::units::Angle;
 
+// A direction where it is known (number 1), then what the checks after it say.
 pub fn check_perhaps(p: Perhaps, rest: Verdict) -> Verdict
     ensures { λ r. ⌜ r ≡ Check.verdict (Spec.perhapsChecks p) rest ⌝ }
 {
@@ -19,6 +20,7 @@ pub fn check_perhaps(p: Perhaps, rest: Verdict) -> Verdict
     }
 }
 
+// A party's course, speed and heading, then what the checks after them say.
 pub fn check_party(p: Party, rest: Verdict) -> Verdict
     ensures { λ r. ⌜ r ≡ Check.verdict (Spec.partyChecks p) rest ⌝ }
 {
@@ -34,6 +36,7 @@ fn is_width(a: Angle) -> bool
     elementary::error::ensure_range(a.0, 0.0, 90.0)
 }
 
+// Both widths, 0 to 90 degrees (number 4), then what the checks after them say.
 pub fn check_config(c: ColregsConfig, rest: Verdict) -> Verdict
     ensures { λ r. ⌜ r ≡ Check.verdict (Spec.configChecks c) rest ⌝ }
 {

@@ -75,6 +75,7 @@ impl Party {
         }
     }
 
+    // The same vessel, heading as given.
     pub fn with_heading(self, heading: Direction) -> Party
         ensures { λ r. ⌜ r ≡ Spec.withHeading self heading ⌝ }
     {
@@ -113,6 +114,7 @@ impl Situation {
         }
     }
 
+    // The same situation with the wind from where it is given.
     pub fn with_wind_from(self, from: Direction) -> Situation
         ensures { λ r. ⌜ r ≡ Spec.withWindFrom self from ⌝ }
     {

@@ -45,6 +45,7 @@ fn outranks(a: CollisionAssessment, b: CollisionAssessment) -> bool
     other < rank
 }
 
+// The more dangerous of the best so far and the next one, the next on equality.
 pub fn keep(best: PerhapsTarget, e: TargetAssessment) -> PerhapsTarget
     ensures { λ r. ⌜ r ≡ Spec.keep best e ⌝ }
 {
@@ -61,6 +62,7 @@ pub fn keep(best: PerhapsTarget, e: TargetAssessment) -> PerhapsTarget
     }
 }
 
+// What was found so far, else the next one where it has the number.
 pub fn or_this(found: PerhapsTarget, target: u32, e: TargetAssessment) -> PerhapsTarget
     ensures { λ r. ⌜ r ≡ Spec.orThis target found e ⌝ }
 {
@@ -75,6 +77,7 @@ pub fn or_this(found: PerhapsTarget, target: u32, e: TargetAssessment) -> Perhap
     }
 }
 
+// Whether a target's risk is at least the given one.
 pub fn is_at_least(e: TargetAssessment, least: CollisionRisk) -> bool
     ensures { λ r. ⌜ r ≡ Spec.isAtLeast least e ⌝ }
 {

@@ -18,6 +18,7 @@ pub struct Words {
     pub fifth: u64,
 }
 
+// The word of a place, the last one for a place beyond it.
 pub fn word(w: Words, part: u32) -> u64
     ensures { λ r. ⌜ r ≡ Spec.word w part ⌝ }
 {
@@ -39,6 +40,7 @@ pub fn word(w: Words, part: u32) -> u64
     w.fifth
 }
 
+// The bit pattern of a float, one and the same for every NaN.
 pub fn pattern(x: f64) -> u64
     ensures { λ r. ⌜ r ≡ Spec.pattern x ⌝ }
 {
@@ -48,6 +50,7 @@ pub fn pattern(x: f64) -> u64
     9221120237041090560
 }
 
+// A refusal's number, and no values.
 pub fn refused(why: Refusal) -> Words
     ensures { λ r. ⌜ r ≡ Spec.refused why ⌝ }
 {
@@ -71,6 +74,7 @@ pub fn vessel(course: f64, speed: f64) -> Vessel
     }
 }
 
+// A contact at a true bearing in degrees and a range in nautical miles.
 pub fn contact(bearing: f64, range: f64) -> Contact
     ensures { λ r. ⌜ r ≡ Spec.contact bearing range ⌝ }
 {
