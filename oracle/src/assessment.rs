@@ -1,10 +1,11 @@
 //! The assessment: the port's `assess` against assessment.rs on the port's elementary functions, behind document 01's argument checks.
 
 use crate::angle::wrap360;
+use crate::checks::is_accepted;
+use crate::checks::Kind::{self, Direction, Distance, Elapsed, Speed};
 use crate::compare::{run, same};
 use crate::inputs::{neighbour, Random};
-use crate::motion::Kind::{self, Direction, Distance, Elapsed, Speed};
-use crate::motion::{accepted, any, bad, collision_bearing, is_accepted, turning};
+use crate::motion::{accepted, any, bad, collision_bearing, turning};
 use crate::port;
 use crate::traffic_calls::{assess, picture, AssessArguments, AssessWords};
 use crate::vectors::Module;

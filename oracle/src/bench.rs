@@ -6,10 +6,24 @@ use std::time::Instant;
 use crate::angle::{wrap180, wrap360};
 use crate::avoidance::{self, Avoid, RuledCase};
 use crate::inputs::Random;
-use crate::{assessment, calls, motion, port, ruling, traffic_calls};
+use crate::{assessment, calls, motion, port, ruling, sheet, sheet_compare, traffic_calls};
 
 const COUNT: usize = 4096;
 const ROUNDS: usize = 400;
+
+/// Calls of each function where instructions are counted.
+const COUNTED: usize = 1000;
+
+/// Calls each of the port's functions that often, on inputs as above, and nothing of the Rust's.
+pub fn calls() {
+    let mut random = Random::new(7);
+    for _ in 0..COUNTED {
+        let (x, y) = (random.unit() * 1000.0, random.unit() * 1000.0 - 500.0);
+        black_box((port::sqrt(x), port::hypot(x, y), port::wrap360(y), port::wrap180(y), port::time_nanos(x)));
+        let (angle, other, sine) = (random.unit() * 32.0 - 16.0, random.unit() * 32.0 - 16.0, random.unit());
+        black_box((port::sin(angle), port::cos(other), port::asin(sine), port::atan2(x - 500.0, y)));
+    }
+}
 
 /// Nanoseconds a call, the best of three runs over the same inputs.
 fn measure<T: Copy, R>(inputs: &[T], f: impl Fn(T) -> R) -> f64 {
@@ -56,6 +70,7 @@ pub fn all() {
     rule_of_the_road();
     assess();
     avoid_and_search();
+    reports();
     growth();
 }
 
@@ -116,6 +131,16 @@ macro_rules! rust_times {
 
 rust_times!(six_times, crate::traffic_calls);
 rust_times!(std_times, kinavis_std::traffic_calls);
+
+/// The whole report on accepted sheets, from the bytes to the text; on the Rust's side with the reading and printing of sheet.rs.
+fn reports() {
+    for contacts in [1, 8, 32] {
+        let sheets = sheet_compare::accepted(8, contacts);
+        let sheets: Vec<&[u8]> = sheets.iter().map(Vec::as_slice).collect();
+        let port = measure(&sheets, |sheet| port::report(sheet, &mut [0; 8192]));
+        row(&format!("report, {contacts} contacts"), port, measure(&sheets, sheet::printed), measure(&sheets, kinavis_std::sheet::printed));
+    }
+}
 
 /// How the time of the port's ruled search grows where nothing clears: with the contacts, and with the trials.
 fn growth() {

@@ -4,6 +4,7 @@
 //! `oracle sheet`: prints what the program `encounter` has to print for the sheet on standard input.
 //! `oracle vectors`: writes the records and answers that the gate replays.
 //! `oracle bench`: measures the port beside the Rust.
+//! `oracle calls`: calls the port's elementary functions 1,000 times each, for a tool that counts instructions.
 
 mod arcs;
 mod assessment;
@@ -17,7 +18,6 @@ mod method;
 mod motion;
 mod port;
 mod ruling;
-mod sheet;
 mod sheet_compare;
 mod sheet_inputs;
 mod vectors;
@@ -40,8 +40,9 @@ fn main() {
         Some("sheet") => sheet_compare::print(),
         Some("vectors") => vectors::write(),
         Some("bench") => bench::all(),
+        Some("calls") => bench::calls(),
         _ => {
-            eprintln!("oracle compare [N [PART]] | outcomes [N [PART]] | sheet | vectors | bench");
+            eprintln!("oracle compare [N [PART]] | outcomes [N [PART]] | sheet | vectors | bench | calls");
             std::process::exit(2);
         }
     }

@@ -3,22 +3,12 @@
 
 use crate::angle::wrap360;
 use crate::calls::{self, Answer, Words};
+use crate::checks::Kind::{self, Direction, Distance, Elapsed, Speed, Width};
+use crate::checks::{is_accepted, LONGEST};
 use crate::compare::{run, same};
 use crate::inputs::{neighbour, Random};
 use crate::vectors::Module;
 use crate::{math, port};
-
-/// What an argument is, with the number that refuses a bad one. Elapsed time is two words, the last ones.
-#[derive(Clone, Copy, PartialEq)]
-pub enum Kind {
-    Direction = 1,
-    Speed = 2,
-    Distance = 3,
-    Elapsed = 6,
-    /// An angle of a config.
-    Width = 12,
-}
-use Kind::{Direction, Distance, Elapsed, Speed, Width};
 
 /// A function: its arguments, how many parts its answer has, the port's (which answers a part) and the Rust on the port's
 /// elementary functions and on the standard library's; and arguments from document 01's corners and examples.
@@ -157,20 +147,6 @@ const APPROACHES: &[&[f64]] = &[
     &[0.0, 1000.5, 0.0, -1.0, 0.0, 10.0],
     &[0.0, 10.0, 0.0, -1.0, 360.0, 10.0],
 ];
-
-/// The longest time that is accepted, in seconds.
-const LONGEST: u64 = 1 << 53;
-
-pub fn is_accepted(kind: Kind, words: &[u64]) -> bool {
-    let x = f64::from_bits(words[0]);
-    match kind {
-        Direction => (0.0..360.0).contains(&x),
-        Speed => (0.0..=1000.0).contains(&x),
-        Distance => (0.0..=10_000.0).contains(&x),
-        Elapsed => words[1] < 1_000_000_000 && (words[0], words[1]) <= (LONGEST, 0),
-        Width => (0.0..=90.0).contains(&x),
-    }
-}
 
 impl Function {
     /// Document 01's answer: the first bad argument decides, and with none bad the Rust does.

@@ -66,6 +66,7 @@ exports! {
 }
 
 extern "C" {
+    fn encounter_report(sheet: *const u8, len: usize, out: *mut u8, out_len: usize) -> usize;
     fn avoidance_picture(part: u32, count: usize, limit: f64, secs: u64, floats: *const f64, len: usize) -> u64;
     fn avoidance_search(part: u32, sides: u32, count: usize, floats: *const f64, len: usize) -> u64;
     fn avoidance_ruled(part: u32, codes: u32, count: usize, floats: *const f64, len: usize) -> u64;
@@ -84,4 +85,10 @@ pub fn search(part: u32, sides: u32, count: usize, floats: &[f64]) -> u64 {
 pub fn ruled(part: u32, codes: u32, count: usize, floats: &[f64]) -> u64 {
     // SAFETY: as above.
     unsafe { avoidance_ruled(part, codes, count, floats.as_ptr(), floats.len()) }
+}
+
+/// The report on a sheet, written into `out`: how many bytes, or 0 where there is no room.
+pub fn report(sheet: &[u8], out: &mut [u8]) -> usize {
+    // SAFETY: the function is proved for every argument, reads the sheet alone, writes into `out` alone and keeps nothing.
+    unsafe { encounter_report(sheet.as_ptr(), sheet.len(), out.as_mut_ptr(), out.len()) }
 }

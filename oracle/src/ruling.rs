@@ -5,10 +5,11 @@ use std::collections::BTreeMap;
 
 use crate::angle::wrap360;
 use crate::calls::{self, RulingWords, SituationWords, CATEGORIES, HEADING, OWN_HEADING, RESTRICTED, WIND};
+use crate::checks::is_accepted;
+use crate::checks::Kind::{self, Direction, Distance, Speed, Width};
 use crate::compare::run;
 use crate::inputs::{neighbour, Random};
-use crate::motion::Kind::{self, Direction, Distance, Speed, Width};
-use crate::motion::{accepted, any, bad, collision_bearing, is_accepted, turning};
+use crate::motion::{accepted, any, bad, collision_bearing, turning};
 use crate::vectors::Module;
 use crate::{port, ColregsConfig};
 

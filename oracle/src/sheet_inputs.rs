@@ -2,7 +2,8 @@
 //! pairs, and random ones, of all sizes, at the limits, with ties, spoiled and damaged.
 
 use crate::angle::wrap360;
-use crate::avoidance::{how_many, limits, own, style, traffic, MAX_CONTACTS};
+use crate::avoidance::{how_many, limits, own, style, traffic};
+use crate::checks::MAX_CONTACTS;
 use crate::calls;
 use crate::inputs::Random;
 use crate::motion::any;

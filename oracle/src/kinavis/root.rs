@@ -10,11 +10,15 @@ extern crate self as libm;
 pub mod angle;
 pub mod calls;
 #[allow(dead_code)]
+pub mod checks;
+#[allow(dead_code)]
 pub mod error;
 #[allow(dead_code)]
 pub mod local;
 #[allow(dead_code)]
 pub mod outside;
+#[allow(dead_code)]
+pub mod sheet;
 pub mod traffic_calls;
 #[allow(dead_code)]
 pub mod units;

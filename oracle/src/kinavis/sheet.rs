@@ -1,14 +1,13 @@
 //! Encounter sheets by document 01, 'Encounter sheet and its program': which bytes are a sheet, and the lines that the program prints for
-//! any bytes. Approach, risk and ruling are the unchanged Rust's on the port's elementary functions, and the ruled search is the reference
-//! that the port's is compared with; what stands here is the sheet's layout, its checks and the lines' words.
+//! any bytes. Approach, risk and ruling are the unchanged Rust's, and the ruled search is the reference that the port's is compared with; what stands here is the sheet's layout, its checks and the lines' words.
 
 use std::time::Duration;
 
 use crate::angle::Side;
-use crate::avoidance::{first_bad, CONSTRAINTS, COUNT, MAX_CONTACTS};
 use crate::calls;
+use crate::checks::Kind::{Direction, Distance as Miles, Speed as Knots};
+use crate::checks::{first_bad, CONSTRAINTS, COUNT, MAX_CONTACTS};
 use crate::colregs::{rule_of_the_road, Party};
-use crate::motion::Kind::{Direction, Distance as Miles, Speed as Knots};
 use crate::relative_motion::{closest_point_of_approach, Approach, Contact, Vessel};
 use crate::traffic_assessment::{assess, CollisionRisk, CpaPolicy};
 use crate::traffic_calls::{constraints, list, ruled, Limits, List, Ruled, Rulings, SIDES};
