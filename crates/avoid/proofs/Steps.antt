@@ -11,13 +11,13 @@ use Rattle.motion.specs.declared.vessel.Contact.{Contact}
 use Rattle.course.specs.declared.Avoidance.{Avoidance}
 use Rattle.course.specs.declared.CourseAnswer.{CourseAnswer}
 use Rattle.course.specs.Course.{courseAnswer}
-use Rattle.manoeuvre.specs.declared.answer.Limiting.the-variants as Limiting
-use Rattle.manoeuvre.specs.declared.answer.TurnTime.{TurnTime}
-use Rattle.manoeuvre.specs.declared.answer.AvoidanceManoeuvre.{AvoidanceManoeuvre}
-use Rattle.manoeuvre.specs.declared.constraints.PerhapsRate.{PerhapsRate}
-use Rattle.manoeuvre.specs.declared.constraints.ManoeuvreConstraints.{ManoeuvreConstraints}
+use Rattle.manoeuvre.specs.declared.Limiting.the-variants as Limiting
+use Rattle.manoeuvre.specs.declared.TurnTime.{TurnTime}
+use Rattle.manoeuvre.specs.declared.AvoidanceManoeuvre.{AvoidanceManoeuvre}
+use Rattle.constraints.specs.declared.PerhapsRate.{PerhapsRate}
+use Rattle.constraints.specs.declared.ManoeuvreConstraints.{ManoeuvreConstraints}
 use Rattle.manoeuvre.specs.Manoeuvre.{turnTime, manoeuvre}
-use Rattle.clearing.specs.declared.Moving.{Moving}
+use Rattle.passages.specs.declared.Moving.{Moving}
 use Rattle.clearing.specs.Clearing.{floorOf, altered, moving}
 use Rattle.choice.specs.declared.Chosen.{Chosen}
 use Rattle.choice.specs.declared.Choice.{Choice}

@@ -11,12 +11,12 @@ use Rattle.arguments.specs.declared.Verdict.{Verdict}
 use Rattle.arguments.specs.declared.Verdict.the-variants as Verdict
 use Rattle.arguments.specs.Check.{Check, verdict, encounterChecks, distanceChecks}
 use Rattle.course.specs.Course.{courseAnswer}
-use Rattle.manoeuvre.specs.declared.answer.Limiting.the-variants as Limiting
-use Rattle.manoeuvre.specs.declared.answer.AvoidanceManoeuvre.{AvoidanceManoeuvre}
-use Rattle.manoeuvre.specs.declared.constraints.ManoeuvreConstraints.{ManoeuvreConstraints}
-use Rattle.manoeuvre.specs.Constraints.{constraintChecks}
+use Rattle.manoeuvre.specs.declared.Limiting.the-variants as Limiting
+use Rattle.manoeuvre.specs.declared.AvoidanceManoeuvre.{AvoidanceManoeuvre}
+use Rattle.constraints.specs.declared.ManoeuvreConstraints.{ManoeuvreConstraints}
+use Rattle.constraints.specs.Constraints.{constraintChecks}
 use Rattle.manoeuvre.specs.Manoeuvre.{turnTime, manoeuvre}
-use Rattle.clearing.specs.declared.Target.{Target}
+use Rattle.passages.specs.declared.Target.{Target}
 use Rattle.clearing.specs.Clearing.{floorOf, altered, moving}
 use Rattle.choice.specs.declared.Chosen.{Chosen}
 use Rattle.choice.specs.declared.Choice.{Choice}

@@ -5,17 +5,15 @@ ghost use Rattle.avoid.specs.Avoid as Spec;
 use arguments::Verdict;
 use choice::Choice;
 use choice::Chosen;
-use clearing::Target;
+use constraints::ManoeuvreConstraints;
 use elementary::error::Refusal;
-use manoeuvre::answer;
-use manoeuvre::answer::AvoidanceManoeuvre;
-use manoeuvre::answer::Limiting;
-use manoeuvre::constraints;
-use manoeuvre::constraints::ManoeuvreConstraints;
+use manoeuvre::AvoidanceManoeuvre;
+use manoeuvre::Limiting;
 use motion::units::Angle;
 use motion::units::Distance;
 use motion::vessel::Contact;
 use motion::vessel::Vessel;
+use passages::Target;
 use seeds::courses_in;
 use seeds::seeded_choice;
 
@@ -32,7 +30,7 @@ fn manoeuvre_of(own: Vessel, c: ManoeuvreConstraints, x: Chosen) -> AvoidanceMan
     let distance = passing.distance;
     let alteration = choice::signed(side, x.magnitude.0);
     let altered = choice::altered(own, alteration);
-    let time = answer::turn_time(math::abs(alteration), c.rate_of_turn());
+    let time = manoeuvre::turn_time(math::abs(alteration), c.rate_of_turn());
     AvoidanceManoeuvre::new(
         altered.course,
         Angle(alteration),
@@ -62,7 +60,7 @@ fn avoided(
     ensures { λ r. ⌜ r ≡ Spec.avoidedAs own contact target desired c ⌝ }
 {
     let courses = courses_in(course::course_for_cpa(own, contact, target, desired));
-    let m = clearing::moving_of(Target {
+    let m = passages::moving_of(Target {
         contact: contact,
         vessel: target,
     });

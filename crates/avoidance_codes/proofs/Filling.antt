@@ -8,8 +8,8 @@ use native.Mathlib.Omega.{arith}
 use lib.ListN.{length, set, take, length-set}
 use lib.Seq.{take-suc-set}
 use lib.Ieee.{Float}
-use Rattle.clearing.specs.Clearing.{maxContacts}
-use Rattle.clearing.proofs.Loop.{take-held}
+use Rattle.room.specs.Room.{maxContacts}
+use Rattle.room.proofs.Counts.{take-held}
 use Rattle.traffic.specs.declared.Entry.{Entry}
 use Rattle.avoidance_codes.specs.Codes.{entryAt, placeOf, firstOf, entries}
 

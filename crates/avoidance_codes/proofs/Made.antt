@@ -5,11 +5,11 @@ use Prim.Native.Nat.{ℕ}
 use lib.Dec.{eqb}
 use lib.Ieee.{Float}
 use Rattle.elementary.specs.declared.error.Refusal.{Refusal}
-use Rattle.manoeuvre.specs.declared.constraints.PermittedSides.{PermittedSides}
-use Rattle.manoeuvre.specs.declared.constraints.ManoeuvreConstraints.{ManoeuvreConstraints}
-use Rattle.manoeuvre.specs.declared.constraints.ConstraintsAnswer.{ConstraintsAnswer}
-use Rattle.manoeuvre.specs.declared.constraints.ConstraintsAnswer.the-variants as Constraints
-use Rattle.manoeuvre.specs.Constraints.{constraintsAnswer, withRateOfTurn}
+use Rattle.constraints.specs.declared.PermittedSides.{PermittedSides}
+use Rattle.constraints.specs.declared.ManoeuvreConstraints.{ManoeuvreConstraints}
+use Rattle.constraints.specs.declared.ConstraintsAnswer.{ConstraintsAnswer}
+use Rattle.constraints.specs.declared.ConstraintsAnswer.the-variants as Constraints
+use Rattle.constraints.specs.Constraints.{constraintsAnswer, withRateOfTurn}
 use Rattle.avoidance_codes.specs.Codes.{permittedSides, withRate, constraintsOf}
 
 module _ (sides : ℕ) (least most : Float) (known : ℕ) (rate : Float) (p : PermittedSides) (made : ConstraintsAnswer) where

@@ -6,13 +6,13 @@ use lib.Dec.{eqb}
 use lib.ListN.{getD}
 use lib.Ieee.{Float}
 use Rattle.math.specs.Cast.{toUsize}
-use Rattle.manoeuvre.specs.declared.answer.Side.the-variants.{Starboard, Port}
-use Rattle.manoeuvre.specs.declared.constraints.PermittedSides.{PermittedSides}
-use Rattle.manoeuvre.specs.declared.constraints.PermittedSides.the-variants as Permitted
-use Rattle.manoeuvre.specs.declared.constraints.ConstraintsAnswer.{ConstraintsAnswer}
-use Rattle.manoeuvre.specs.declared.constraints.ConstraintsAnswer.the-variants as Constraints
-use Rattle.manoeuvre.specs.Constraints.{constraintsAnswer, withRateOfTurn}
-use Rattle.clearing.specs.Clearing.{maxContacts}
+use Rattle.manoeuvre.specs.declared.Side.the-variants.{Starboard, Port}
+use Rattle.constraints.specs.declared.PermittedSides.{PermittedSides}
+use Rattle.constraints.specs.declared.PermittedSides.the-variants as Permitted
+use Rattle.constraints.specs.declared.ConstraintsAnswer.{ConstraintsAnswer}
+use Rattle.constraints.specs.declared.ConstraintsAnswer.the-variants as Constraints
+use Rattle.constraints.specs.Constraints.{constraintsAnswer, withRateOfTurn}
+use Rattle.room.specs.Room.{maxContacts}
 use Rattle.traffic.specs.declared.Entry.{Entry}
 use Rattle.codes.specs.Codes as Codes
 use Rattle.words.specs.Words as Words

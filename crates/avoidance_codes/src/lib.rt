@@ -3,12 +3,12 @@ ghost use mathlib.Core.Path.{_≡_};
 ghost use Prim.Native.Nat.{_<_};
 ghost use Rattle.traffic.specs.Traffic as Around;
 ghost use Rattle.avoidance_codes.specs.Codes as Spec;
-use clearing::MAX_CONTACTS;
-use manoeuvre::constraints::ConstraintsAnswer;
-use manoeuvre::constraints::ManoeuvreConstraints;
-use manoeuvre::constraints::PermittedSides;
+use constraints::ConstraintsAnswer;
+use constraints::ManoeuvreConstraints;
+use constraints::PermittedSides;
 use motion::units::Angle;
 use motion::units::RateOfTurn;
+use room::MAX_CONTACTS;
 use traffic::Entry;
 use traffic::Traffic;
 
@@ -75,7 +75,7 @@ pub fn traffic_of(wide: bool, count: usize, floats: &[f64]) -> Traffic
     ensures counted { λ r. ⌜ r .count ≡ count ⌝ }
     ensures listed { λ r. ⌜ Around.contacts r ≡ Spec.entries wide (now (floats .entry)) count ⌝ }
 {
-    let n = clearing::held(count);
+    let n = room::held(count);
     let nobody = entry_at(floats, 0);
     let mut t = Traffic {
         count: 0,

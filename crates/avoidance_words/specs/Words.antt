@@ -1,12 +1,12 @@
 -- The parts of a manoeuvre as words.
 use mathlib.Core.List.{List, [], _∷_}
 use Prim.Native.Nat.{ℕ, _+_, _%_}
-use Rattle.manoeuvre.specs.declared.answer.Side.{Side}
-use Rattle.manoeuvre.specs.declared.answer.Side.the-variants.{Starboard, Port}
-use Rattle.manoeuvre.specs.declared.answer.Limiting.{Limiting}
-use Rattle.manoeuvre.specs.declared.answer.Limiting.the-variants.{Nobody, Contact}
-use Rattle.manoeuvre.specs.declared.answer.TurnTime.{TurnTime}
-use Rattle.manoeuvre.specs.declared.answer.TurnTime.the-variants as TurnTime
+use Rattle.manoeuvre.specs.declared.Side.{Side}
+use Rattle.manoeuvre.specs.declared.Side.the-variants.{Starboard, Port}
+use Rattle.manoeuvre.specs.declared.Limiting.{Limiting}
+use Rattle.manoeuvre.specs.declared.Limiting.the-variants.{Nobody, Contact}
+use Rattle.manoeuvre.specs.declared.TurnTime.{TurnTime}
+use Rattle.manoeuvre.specs.declared.TurnTime.the-variants as TurnTime
 
 abbrev pub sideWord : Side → ℕ
 sideWord Starboard = 0

@@ -1,9 +1,9 @@
 // The parts of a manoeuvre as words, for the C exports of avoidance: the side, the limiting contact, and the nine words of an answer.
 ghost use mathlib.Core.Path.{_≡_};
 ghost use Rattle.avoidance_words.specs.Words as Spec;
-use manoeuvre::answer::Limiting;
-use manoeuvre::answer::Side;
-use manoeuvre::answer::TurnTime;
+use manoeuvre::Limiting;
+use manoeuvre::Side;
+use manoeuvre::TurnTime;
 
 // 0 starboard, 1 port.
 pub fn side_word(side: Side) -> u64

@@ -11,13 +11,13 @@ use Rattle.laws.specs.Fold.{fold}
 use Rattle.motion.specs.declared.vessel.Vessel.{Vessel}
 use Rattle.motion.specs.declared.vessel.Components.{Components}
 use Rattle.motion.specs.Vessel.{velocity}
-use Rattle.clearing.specs.declared.Moving.{Moving}
+use Rattle.passages.specs.declared.Moving.{Moving}
 use Rattle.clearing.specs.declared.Passing.{Passing}
 use Rattle.clearing.specs.declared.Clearance.{Clearance}
 use Rattle.clearing.specs.declared.Clearance.the-variants.{No, Yes}
 use Rattle.clearing.specs.Clearing.{altered, clearsAt}
-use Rattle.manoeuvre.specs.declared.answer.Side.{Side}
-use Rattle.manoeuvre.specs.declared.answer.Side.the-variants.{Starboard, Port}
+use Rattle.manoeuvre.specs.declared.Side.{Side}
+use Rattle.manoeuvre.specs.declared.Side.the-variants.{Starboard, Port}
 use Rattle.choice.specs.declared.Sides.{Sides}
 use Rattle.choice.specs.declared.Chosen.{Chosen}
 use Rattle.choice.specs.declared.Choice.{Choice}

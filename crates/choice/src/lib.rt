@@ -8,7 +8,7 @@ ghost use Rattle.choice.specs.Choice as Spec;
 use clearing::Clearance;
 use clearing::Passing;
 use clearing::Scene;
-use manoeuvre::answer::Side;
+use manoeuvre::Side;
 use motion::units::Angle;
 use motion::units::Direction;
 use motion::vessel::Vessel;

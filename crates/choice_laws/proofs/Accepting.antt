@@ -6,8 +6,8 @@ use lib.Ieee.Fits.{and-l, and-r}
 use Rattle.elementary.specs.Range.{inRange}
 use Rattle.motion.specs.declared.vessel.Vessel.{Vessel}
 use Rattle.arguments.specs.Check.{Check, zero, vesselChecks}
-use Rattle.manoeuvre.specs.declared.constraints.ManoeuvreConstraints.{ManoeuvreConstraints}
-use Rattle.manoeuvre.specs.Constraints.{reversal, alterationChecks, rateChecks, constraintChecks}
+use Rattle.constraints.specs.declared.ManoeuvreConstraints.{ManoeuvreConstraints}
+use Rattle.constraints.specs.Constraints.{reversal, alterationChecks, rateChecks, constraintChecks}
 use Rattle.trials.specs.Trials.{Limits}
 use Rattle.motion_laws.specs.Sound.{HeldVessel, AllGood}
 use Rattle.choice_laws.specs.Fit.{FitVessel}

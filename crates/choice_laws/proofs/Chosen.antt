@@ -9,8 +9,8 @@ use lib.Ieee.Bits.{is-true}
 use Rattle.laws.specs.Ascending.{Ascending}
 use Rattle.laws.proofs.Bools.{holds, fails}
 use Rattle.laws.proofs.Order.{lt-trans, eq-lt, apart}
-use Rattle.manoeuvre.specs.declared.answer.Side.{Side}
-use Rattle.manoeuvre.specs.declared.answer.Side.the-variants.{Starboard, Port}
+use Rattle.manoeuvre.specs.declared.Side.{Side}
+use Rattle.manoeuvre.specs.declared.Side.the-variants.{Starboard, Port}
 use Rattle.clearing.specs.declared.Clearance.{Clearance}
 use Rattle.clearing.specs.declared.Clearance.the-variants.{No, Yes}
 use Rattle.choice.specs.declared.Sides.{Sides}

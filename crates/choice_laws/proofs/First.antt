@@ -8,7 +8,7 @@ use lib.Ieee.{Float, lt}
 use Rattle.laws.specs.Ascending.{Ascending}
 use Rattle.laws.specs.Fold.{fold}
 use Rattle.laws.proofs.Order.{lt-not-self, lt-trans}
-use Rattle.manoeuvre.specs.declared.answer.Side.{Side}
+use Rattle.manoeuvre.specs.declared.Side.{Side}
 use Rattle.clearing.specs.declared.Clearance.{Clearance}
 use Rattle.clearing.specs.declared.Clearance.the-variants.{No, Yes}
 use Rattle.clearing.specs.declared.Passing.{Passing}

@@ -12,9 +12,9 @@ use Rattle.laws.proofs.Bools.{holds, fails}
 use Rattle.laws.proofs.Members.{mem-last}
 use Rattle.laws.proofs.Order.{lt-not-self, le-of-lt-float, lt-le-trans, le-trans-float, le-or-lt}
 use Rattle.motion.specs.declared.units.Distance.{Distance}
-use Rattle.manoeuvre.specs.declared.answer.Limiting.the-variants as Limiting
-use Rattle.clearing.specs.declared.Passage.{Passage}
-use Rattle.clearing.specs.declared.Passage.the-variants.{Blocked, At}
+use Rattle.manoeuvre.specs.declared.Limiting.the-variants as Limiting
+use Rattle.passages.specs.declared.Passage.{Passage}
+use Rattle.passages.specs.declared.Passage.the-variants.{Blocked, At}
 use Rattle.clearing.specs.declared.Passing.{Passing}
 use Rattle.clearing.specs.declared.Tally.{Tally}
 use Rattle.clearing.specs.declared.Tally.the-variants.{Stopped, Free, Least}

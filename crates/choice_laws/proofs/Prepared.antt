@@ -30,10 +30,10 @@ use Rattle.root.specs.Hypot.{hypot}
 use Rattle.motion_laws.specs.Sound.{HeldVessel, AllGood, FiniteCpa}
 use Rattle.motion_laws.proofs.Sizes.{Sized, sized, direction-small}
 use Rattle.motion_laws.proofs.Finite.{not-closing, cpa-finite}
-use Rattle.clearing.specs.declared.Target.{Target}
-use Rattle.clearing.specs.declared.Moving.{Moving}
-use Rattle.clearing.specs.declared.Passage.{Passage}
-use Rattle.clearing.specs.declared.Passage.the-variants.{Blocked, At}
+use Rattle.passages.specs.declared.Target.{Target}
+use Rattle.passages.specs.declared.Moving.{Moving}
+use Rattle.passages.specs.declared.Passage.{Passage}
+use Rattle.passages.specs.declared.Passage.the-variants.{Blocked, At}
 use Rattle.clearing.specs.declared.Clearance.{Clearance}
 use Rattle.clearing.specs.Clearing.{altered, floorOf, passed, passedBy, passage, clearing, clears, moving, passageAt, clearsAt}
 use Rattle.choice_laws.specs.Closest.{Real}

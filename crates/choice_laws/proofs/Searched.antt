@@ -15,12 +15,12 @@ use Rattle.laws.proofs.Size.{small-of-tests, neg-small}
 use Rattle.motion.specs.declared.units.Distance.{Distance}
 use Rattle.motion.specs.declared.vessel.Vessel.{Vessel}
 use Rattle.motion.specs.Vessel.{velocity}
-use Rattle.manoeuvre.specs.declared.answer.Side.{Side}
-use Rattle.manoeuvre.specs.declared.answer.Side.the-variants.{Starboard, Port}
+use Rattle.manoeuvre.specs.declared.Side.{Side}
+use Rattle.manoeuvre.specs.declared.Side.the-variants.{Starboard, Port}
 use Rattle.trials.specs.Trials.{last, trial, trials, halfTurn, Limits, IsTrialList}
 use Rattle.trials.proofs.Climbing.{is-trial-list}
 use Rattle.trials.proofs.Listed.{entry, ascending}
-use Rattle.clearing.specs.declared.Target.{Target}
+use Rattle.passages.specs.declared.Target.{Target}
 use Rattle.clearing.specs.declared.Clearance.{Clearance}
 use Rattle.clearing.specs.Clearing.{altered, floorOf, clears, moving, clearsAt}
 use Rattle.choice.specs.declared.Sides.{Sides}

@@ -9,8 +9,8 @@ use Rattle.laws.specs.Ascending.{Ascending}
 use Rattle.laws.specs.Fold.{fold}
 use Rattle.laws.proofs.Bools.{refuted}
 use Rattle.laws.proofs.Order.{lt-not-self, lt-trans, lt-self}
-use Rattle.manoeuvre.specs.declared.answer.Side.{Side}
-use Rattle.manoeuvre.specs.declared.answer.Side.the-variants.{Starboard, Port}
+use Rattle.manoeuvre.specs.declared.Side.{Side}
+use Rattle.manoeuvre.specs.declared.Side.the-variants.{Starboard, Port}
 use Rattle.clearing.specs.declared.Clearance.{Clearance}
 use Rattle.clearing.specs.declared.Clearance.the-variants.{No, Yes}
 use Rattle.clearing.specs.declared.Passing.{Passing}

@@ -6,9 +6,9 @@ use lib.ListN.{length}
 use lib.Dec.{T}
 use lib.Ieee.{lt, le, isNan}
 use Rattle.motion.specs.declared.units.Distance.{Distance}
-use Rattle.manoeuvre.specs.declared.answer.Limiting.the-variants as Limiting
-use Rattle.clearing.specs.declared.Passage.{Passage}
-use Rattle.clearing.specs.declared.Passage.the-variants.{Blocked, At}
+use Rattle.manoeuvre.specs.declared.Limiting.the-variants as Limiting
+use Rattle.passages.specs.declared.Passage.{Passage}
+use Rattle.passages.specs.declared.Passage.the-variants.{Blocked, At}
 use Rattle.clearing.specs.declared.Passing.{Passing}
 
 -- no distance is NaN

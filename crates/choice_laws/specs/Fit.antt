@@ -5,7 +5,7 @@ use Rattle.motion.specs.declared.vessel.Vessel.{Vessel}
 use Rattle.motion.specs.declared.vessel.Contact.{Contact}
 use Rattle.arguments.specs.Check.{isDirection, isSpeed, isDistance}
 use Rattle.motion_laws.specs.Sound.{HeldVessel, HeldContact}
-use Rattle.clearing.specs.declared.Target.{Target}
+use Rattle.passages.specs.declared.Target.{Target}
 
 pub record FitVessel (v : Vessel) : Type 0 where
   pub held : HeldVessel v

@@ -4,8 +4,8 @@ use mathlib.Core.Bool.{Bool}
 use mathlib.Core.List.{List, List·Memᴰ}
 use lib.Dec.{T}
 use lib.Ieee.{Float, eq, lt}
-use Rattle.manoeuvre.specs.declared.answer.Side.{Side}
-use Rattle.manoeuvre.specs.declared.answer.Side.the-variants.{Starboard, Port}
+use Rattle.manoeuvre.specs.declared.Side.{Side}
+use Rattle.manoeuvre.specs.declared.Side.the-variants.{Starboard, Port}
 use Rattle.clearing.specs.declared.Clearance.{Clearance}
 use Rattle.clearing.specs.declared.Clearance.the-variants.{No, Yes}
 use Rattle.choice.specs.declared.Sides.{Sides}

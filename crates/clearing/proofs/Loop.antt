@@ -1,16 +1,16 @@
 -- The loop over the contacts: each turn joins one more of those that are left, and one that blocks decides, wherever it stands.
-use mathlib.Core.Path.{_≡_, refl, sym, ap, _∙_, subst}
-use mathlib.Core.Bool.{Bool, true, false, not, true≢false}
+use mathlib.Core.Path.{_≡_, refl, sym, ap, _∙_}
+use mathlib.Core.Bool.{Bool, true, false, true≢false}
 use mathlib.Core.List.{List, [], _∷_, map}
 use Prim.Native.Nat.{ℕ, zero, suc, _+_, _≤_, _<_, min}
 use native.Mathlib.Nat.{le-of-lt, lt-of-lt-of-le}
 use native.Mathlib.Numerals.{add-one}
 use native.Mathlib.Omega.{arith}
-use lib.Dec.{T, ltb, ltb→lt, nltb→le}
 use lib.ListN.{length, getD, take}
-use lib.Seq.{slice, slice-cons, slice-empty, take-all}
-use Rattle.clearing.specs.declared.Passage.{Passage}
-use Rattle.clearing.specs.declared.Passage.the-variants.{Blocked, At}
+use lib.Seq.{slice, slice-cons, slice-empty}
+use Rattle.room.proofs.Counts.{take-held}
+use Rattle.passages.specs.declared.Passage.{Passage}
+use Rattle.passages.specs.declared.Passage.the-variants.{Blocked, At}
 use Rattle.clearing.specs.declared.Tally.{Tally}
 use Rattle.clearing.specs.declared.Tally.the-variants.{Stopped, Free, Least}
 use Rattle.clearing.specs.declared.Clearance.{Clearance}
@@ -35,31 +35,6 @@ is-stopped (Least l) h = absurd (true≢false (sym h))
 is-blocked : (p : Passage) → isBlocked p ≡ true → p ≡ Blocked
 is-blocked Blocked h = refl
 is-blocked (At d) h = absurd (true≢false (sym h))
-
--- a count beyond the list takes it whole
-pub take-held : {A : Type 0} (n : ℕ) (l : List A) → take (min n (length l)) l ≡ take n l
-take-held n l = go (ltb n (length l)) refl
-  where
-    less : n < length l → min n (length l) ≡ n
-    less h = omega arith
-
-    more : length l ≤ n → min n (length l) ≡ length l
-    more h = omega arith
-
-    all : length l ≤ length l
-    all = omega arith
-
-    go : (b : Bool) → ltb n (length l) ≡ b → take (min n (length l)) l ≡ take n l
-    go true e = ap (λ k. take k l) (less (ltb→lt n (length l) (subst T (sym e) tt)))
-    go false e = let k = nltb→le n (length l) (subst (λ t. T (not t)) (sym e) tt) in ap (λ k. take k l) (more k) ∙ take-all (length l) l all ∙ sym (take-all n l k)
-
--- of a list that fills the room, a count cut at the room takes as much
-pub take-room : {A : Type 0} (n count room : ℕ) (l : List A) → n ≡ min count room → length l ≡ room → take n l ≡ take count l
-take-room n count room l is full = ap (λ k. take k l) (is ∙ ap (min count) (sym full)) ∙ take-held count l
-
--- a count cut at the room fits the room
-pub fits : (n count room len : ℕ) → n ≡ min count room → len ≡ room → n ≤ len
-fits n count room len is full = omega arith
 
 module _ {A : Type 0} (f : A → Passage) (l : List A) (n : ℕ) where
   -- what is still to be joined, from i on

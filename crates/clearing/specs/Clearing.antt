@@ -3,34 +3,25 @@ use mathlib.Core.Bool.{Bool, true, false, cond}
 use mathlib.Core.List.{List, [], _∷_, map}
 use Prim.Native.Nat.{ℕ, suc}
 use lib.ListN.{take}
-use lib.Ieee.{Float, binary64, lt, le, ofBits}
+use lib.Ieee.{Float, binary64, lt, ofBits}
 use Rattle.laws.specs.Ops.{_⊕_, _⊖_}
 use Rattle.angle.specs.Fold.{wholeFold}
-use Rattle.arguments.specs.Check.{zero}
 use Rattle.motion.specs.declared.units.Distance.{Distance}
 use Rattle.motion.specs.declared.vessel.Vessel.{Vessel}
 use Rattle.motion.specs.declared.vessel.Components.{Components}
-use Rattle.motion.specs.Vessel.{velocity, offset, difference}
-use Rattle.relative_motion.specs.declared.approach.Pass.{Pass}
-use Rattle.relative_motion.specs.declared.approach.Pass.the-variants as Pass
-use Rattle.relative_motion.specs.declared.approach.CpaAnswer.{CpaAnswer}
-use Rattle.relative_motion.specs.declared.approach.CpaAnswer.the-variants as CpaAnswer
-use Rattle.relative_motion.specs.Approach.{closingRate, approachFrom, passingIn, cpaAnswer}
-use Rattle.manoeuvre.specs.declared.answer.Limiting.the-variants as Limiting
-use Rattle.clearing.specs.declared.Target.{Target}
-use Rattle.clearing.specs.declared.Moving.{Moving}
+use Rattle.manoeuvre.specs.declared.Limiting.the-variants as Limiting
+use Rattle.passages.specs.declared.Target.{Target}
+use Rattle.passages.specs.declared.Moving.{Moving}
+pub use Rattle.passages.specs.Passages.{passed, passedBy}
+unfoldable pub use Rattle.passages.specs.Passages.{passage, moving, passageAt}
 use Rattle.clearing.specs.declared.Scene.{Scene}
-use Rattle.clearing.specs.declared.Passage.{Passage}
-use Rattle.clearing.specs.declared.Passage.the-variants.{Blocked, At}
+use Rattle.passages.specs.declared.Passage.{Passage}
+use Rattle.passages.specs.declared.Passage.the-variants.{Blocked, At}
 use Rattle.clearing.specs.declared.Passing.{Passing}
 use Rattle.clearing.specs.declared.Tally.{Tally}
 use Rattle.clearing.specs.declared.Tally.the-variants.{Stopped, Free, Least}
 use Rattle.clearing.specs.declared.Clearance.{Clearance}
 use Rattle.clearing.specs.declared.Clearance.the-variants.{No, Yes}
-
--- the room for contacts, `MAX_CONTACTS`
-abbrev pub maxContacts : ℕ
-maxContacts = 32
 
 -- 1e-9: an exact answer lands on the distance that is wanted
 abbrev pub tolerance : Float
@@ -47,21 +38,6 @@ altered own alteration = record { course = record { 0 = wholeFold (own .course .
 -- desired minus 1e-9
 unfoldable pub floorOf : Distance → Float
 floorOf desired = desired .0 ⊖ tolerance
-
--- ---- one contact
-
--- a closing contact blocks below the floor; any other passes at its range
-abbrev pub passed : Float → Pass → Passage
-passed floor (Pass.Closing d) = cond (lt (d .0) floor) Blocked (At d)
-passed floor (Pass.Opening range) = At range
-passed floor (Pass.Stationary range) = At range
-
-abbrev pub passedBy : Float → CpaAnswer → Passage
-passedBy floor (CpaAnswer.Of a) = passed floor (passingIn a)
-passedBy floor (CpaAnswer.Refused why) = Blocked
-
-unfoldable pub passage : Vessel → Float → Target → Passage
-passage own floor t = passedBy floor (cpaAnswer own (t .contact) (t .vessel))
 
 -- ---- all contacts: the first that passes closest, by its place in the list
 
@@ -92,15 +68,7 @@ clearing ps = cleared (tally 0 Free ps)
 unfoldable pub clears : Vessel → Float → List Target → Distance → Clearance
 clears own alteration targets desired = clearing (map (passage (altered own alteration) (floorOf desired)) targets)
 
--- ---- what is computed: from offsets and velocities, and by the range where the rate is not closing
-
-unfoldable pub moving : Target → Moving
-moving t = record { range = t .contact .range; offset = offset (t .contact); velocity = velocity (t .vessel) }
-
-unfoldable pub passageAt : Components → Float → Moving → Passage
-passageAt own floor m =
-    let relative = difference (m .velocity) own in
-    cond (le zero (closingRate (m .offset) relative)) (At (m .range)) (passed floor (passingIn (approachFrom (m .range) (m .offset) relative)))
+-- ---- what is computed: by `passageAt` of each contact
 
 abbrev pub isBlocked : Passage → Bool
 isBlocked Blocked = true

@@ -2,52 +2,29 @@
 // the list, unless a contact closes under the distance that is wanted.
 //
 // A contact's offset and velocity are worked out once (`Moving`), own craft's velocity once for each course. specs/Clearing.antt has
-// the plain definition, by `closest_point_of_approach`, and beside it what is computed here; proofs/Prepared.antt says that they agree.
+// the plain definition, by `closest_point_of_approach`, and beside it what is computed here.
 // Most courses of a search are blocked, and one contact that blocks is enough. So the suspects come first, of which a product tells, without a root
 // or a division, that they may close under the distance. A contact blocks only if it is worked out to; where no suspect does, all are worked out.
 ghost use mathlib.Core.Path.{_≡_};
 ghost use mathlib.Core.Bool.{true};
-ghost use Prim.Native.Nat.{min};
 ghost use Rattle.clearing.specs.declared.Clearance.the-variants.{No};
 ghost use Rattle.clearing.specs.Clearing as Spec;
-use manoeuvre::answer::Limiting;
+use manoeuvre::Limiting;
 use motion::units::Distance;
 use motion::vessel;
 use motion::vessel::Components;
-use motion::vessel::Contact;
-use motion::vessel::Vessel;
-use relative_motion::approach;
-use relative_motion::approach::Pass;
-
-// The room for contacts.
-pub const MAX_CONTACTS: usize = 32;
+use passages::Moving;
+use passages::Passage;
+use passages::passage_of;
+use room::MAX_CONTACTS;
 
 // How many times the square of the wanted distance a suspect's may be.
 const DOUBT: f64 = 1.000001;
-
-// A target as the search sees it: where it is and how it moves.
-pub struct Target {
-    pub contact: Contact,
-    pub vessel: Vessel,
-}
-
-// The same by its range, and by the north and east parts of its offset and its velocity.
-pub struct Moving {
-    pub range: Distance,
-    pub offset: Components,
-    pub velocity: Components,
-}
 
 // The first `count` of the list.
 pub struct Scene {
     pub count: usize,
     pub list: [Moving; MAX_CONTACTS],
-}
-
-// What one contact does to a course: it closes under the distance that is wanted, or passes at a distance.
-pub enum Passage {
-    Blocked,
-    At(Distance),
 }
 
 // The least passing distance, and whose it is.
@@ -66,52 +43,6 @@ pub enum Tally {
 pub enum Clearance {
     No,
     Yes(Passing),
-}
-
-// A target's parts, worked out.
-pub fn moving_of(target: Target) -> Moving
-    ensures { λ r. ⌜ r ≡ Spec.moving target ⌝ }
-{
-    let contact = target.contact;
-    let vessel = target.vessel;
-    let range = contact.range;
-    let offset = contact.offset();
-    let velocity = vessel.velocity();
-    Moving {
-        range: range,
-        offset: offset,
-        velocity: velocity,
-    }
-}
-
-fn passed(pass: Pass, floor: f64) -> Passage
-    ensures { λ r. ⌜ r ≡ Spec.passed floor pass ⌝ }
-{
-    match pass {
-        Pass::Closing(d) => {
-            if d.0 < floor {
-                return Passage::Blocked;
-            }
-            Passage::At(d)
-        }
-        Pass::Opening(range) => Passage::At(range),
-        Pass::Stationary(range) => Passage::At(range),
-    }
-}
-
-// A contact that does not close passes at its range, and costs no root and no division.
-fn passage_of(own: Components, m: Moving, floor: f64) -> Passage
-    ensures { λ r. ⌜ r ≡ Spec.passageAt own floor m ⌝ }
-{
-    let range = m.range;
-    let offset = m.offset;
-    let velocity = m.velocity;
-    let relative = vessel::difference(velocity, own);
-    let rate = offset.north * relative.north + offset.east * relative.east;
-    if rate >= 0.0 {
-        return Passage::At(range);
-    }
-    passed(approach::passing_from(range, offset, relative), floor)
 }
 
 fn joined(tally: Tally, place: usize, p: Passage) -> Tally
@@ -161,16 +92,6 @@ fn cleared(tally: Tally) -> Clearance
     }
 }
 
-// A count, at most the room.
-pub fn held(count: usize) -> usize
-    ensures { λ r. ⌜ r ≡ min count Spec.maxContacts ⌝ }
-{
-    if count < MAX_CONTACTS {
-        return count;
-    }
-    MAX_CONTACTS
-}
-
 // Whether a contact seems to close to a point nearer than the root of `square`: that point's distance is the offset's cross product with
 // the relative velocity, over the relative speed. Nothing is promised of it.
 fn is_suspect(own: Components, m: Moving, square: f64) -> bool {
@@ -196,7 +117,7 @@ fn is_blocked(p: Passage) -> bool
 fn suspect_blocks(own: Components, scene: Scene, floor: f64) -> bool
     ensures { λ r. ⌜ (r ≡ true → Spec.clearsAt own floor (Spec.movings scene) ≡ No) ⌝ }
 {
-    let count = held(scene.count);
+    let count = room::held(scene.count);
     let square = floor * floor * DOUBT;
     let mut k: usize = 0;
     while k < count {
@@ -215,7 +136,7 @@ fn suspect_blocks(own: Components, scene: Scene, floor: f64) -> bool
 fn tallied(own: Components, scene: Scene, floor: f64) -> Clearance
     ensures { λ r. ⌜ r ≡ Spec.clearsAt own floor (Spec.movings scene) ⌝ }
 {
-    let count = held(scene.count);
+    let count = room::held(scene.count);
     let mut tally = Tally::Free;
     let mut i: usize = 0;
     while i < count {

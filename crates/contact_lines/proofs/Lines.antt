@@ -24,8 +24,8 @@ use Rattle.colregs.specs.declared.answer.Ruling.{Ruling}
 use Rattle.colregs.specs.declared.answer.RulingAnswer.{RulingAnswer}
 use Rattle.colregs.specs.declared.answer.RulingAnswer.the-variants as Rulings
 use Rattle.colregs.specs.Colregs.{rulingAnswer}
-use Rattle.clearing.specs.Clearing.{maxContacts}
-use Rattle.clearing.proofs.Loop.{take-room}
+use Rattle.room.specs.Room.{maxContacts}
+use Rattle.room.proofs.Counts.{take-room}
 use Rattle.sheet_record.specs.declared.Row.{Row}
 use Rattle.traffic.specs.declared.Entry.{Entry}
 use Rattle.rulings.specs.Ruled.{situationOf}

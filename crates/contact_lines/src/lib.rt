@@ -64,7 +64,7 @@ fn put_row(t: Text, own: Party, visibility: Visibility, policy: CpaPolicy, row: 
 pub fn put_rows(t0: Text, own: Party, visibility: Visibility, policy: CpaPolicy, rows: Rows) -> Text
     ensures { λ r. ⌜ shown r ≡ appended (shown t0) (Spec.contactLines own visibility policy (Record.rows rows)) ⌝ }
 {
-    let count = clearing::held(rows.count);
+    let count = room::held(rows.count);
     let mut t = t0;
     let mut i: usize = 0;
     while i < count {

@@ -10,8 +10,8 @@ use Rattle.laws.specs.Fold.{fold}
 use Rattle.text.specs.Text.{room, appended}
 use Rattle.text.proofs.Appending.{appended-twice, whole}
 use Rattle.text.proofs.Pieces.{with-piece, joined}
-use Rattle.clearing.specs.Clearing.{maxContacts}
-use Rattle.clearing.proofs.Loop.{take-room}
+use Rattle.room.specs.Room.{maxContacts}
+use Rattle.room.proofs.Counts.{take-room}
 use Rattle.sheet_record.specs.declared.Header.{Header}
 use Rattle.sheet_record.specs.declared.Row.{Row}
 use Rattle.encoding.specs.Encode.{wordBytes, headerWords, rowWords, rowsWords, bytesOf, encode}

@@ -62,7 +62,7 @@ fn put_row(t: Text, row: Row) -> Text
 fn put_rows(t0: Text, rows: Rows) -> Text
     ensures { λ r. ⌜ shown r ≡ appended (shown t0) (Spec.bytesOf (Spec.rowsWords (Record.rows rows))) ⌝ }
 {
-    let count = clearing::held(rows.count);
+    let count = room::held(rows.count);
     let mut t = t0;
     let mut i: usize = 0;
     while i < count {

@@ -4,9 +4,9 @@ use mathlib.Core.Bool.{true}
 use mathlib.Core.List.{List}
 use Prim.Native.Nat.{ℕ, _/_, _%_}
 use lib.Ieee.{Float}
-use Rattle.manoeuvre.specs.declared.constraints.ManoeuvreConstraints.{ManoeuvreConstraints}
-use Rattle.manoeuvre.specs.declared.constraints.ConstraintsAnswer.{ConstraintsAnswer}
-use Rattle.manoeuvre.specs.declared.constraints.ConstraintsAnswer.the-variants as Constraints
+use Rattle.constraints.specs.declared.ManoeuvreConstraints.{ManoeuvreConstraints}
+use Rattle.constraints.specs.declared.ConstraintsAnswer.{ConstraintsAnswer}
+use Rattle.constraints.specs.declared.ConstraintsAnswer.the-variants as Constraints
 use Rattle.situation.specs.declared.party.Party.{Party}
 use Rattle.situation.specs.declared.party.Perhaps.{Perhaps}
 use Rattle.situation.specs.declared.party.Visibility.{Visibility}

@@ -5,9 +5,9 @@ use Prim.Native.Nat.{ℕ, _/_, _%_}
 use lib.Ieee.{Float}
 use Rattle.elementary.specs.Refusal.{numberOf}
 use Rattle.elementary.specs.declared.error.Refusal.{Refusal}
-use Rattle.manoeuvre.specs.declared.constraints.ConstraintsAnswer.{ConstraintsAnswer}
-use Rattle.manoeuvre.specs.declared.constraints.ConstraintsAnswer.the-variants as Constraints
-use Rattle.manoeuvre.specs.Constraints.{permitsStarboard, permitsPort}
+use Rattle.constraints.specs.declared.ConstraintsAnswer.{ConstraintsAnswer}
+use Rattle.constraints.specs.declared.ConstraintsAnswer.the-variants as Constraints
+use Rattle.constraints.specs.Constraints.{permitsStarboard, permitsPort}
 use Rattle.manoeuvre.specs.Manoeuvre.{sideOf}
 use Rattle.clearing.specs.Clearing.{floorOf, moving}
 use Rattle.choice.specs.declared.Choice.{Choice}

@@ -4,7 +4,7 @@ use mathlib.Core.List.{List, [], _∷_}
 use Prim.Native.Nat.{ℕ, suc, _+_, _-_, _≤_, min}
 use native.Mathlib.Omega.{arith}
 use lib.Ieee.{Float}
-use Rattle.clearing.specs.Clearing.{maxContacts}
+use Rattle.room.specs.Room.{maxContacts}
 use Rattle.policy.specs.declared.CpaPolicy.{CpaPolicy}
 use Rattle.assessment.specs.declared.assess.AssessAnswer.{AssessAnswer}
 use Rattle.assessment.specs.declared.assess.CollisionAssessment.{CollisionAssessment}

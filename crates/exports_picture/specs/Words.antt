@@ -5,7 +5,7 @@ use Prim.Native.Nat.{ℕ, zero, suc, _+_, _-_, _*_, _%_, min}
 use lib.Dec.{eqb, ltb}
 use lib.ListN.{length, getD}
 use lib.Ieee.{Float}
-use Rattle.clearing.specs.Clearing.{maxContacts}
+use Rattle.room.specs.Room.{maxContacts}
 use Rattle.policy.specs.declared.CpaPolicy.{CpaPolicy}
 use Rattle.policy.specs.declared.PolicyAnswer.{PolicyAnswer}
 use Rattle.policy.specs.declared.PolicyAnswer.the-variants as Policy

@@ -61,7 +61,7 @@ fn picture_of(
 ) -> CollisionPicture
     ensures { λ r. ⌜ Picture.targets r ≡ Spec.pictured (now (floats .entry)) policy count first ⌝ }
 {
-    let n = clearing::held(count);
+    let n = room::held(count);
     let mut p = CollisionPicture::of(entry_of(0, first));
     let mut i: usize = 1;
     while i < n {

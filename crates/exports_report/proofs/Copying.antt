@@ -9,7 +9,7 @@ use lib.Dec.{leb}
 use lib.ListN.{length, getD, set, take, drop, length-set, length-take, take-append-drop}
 use lib.Seq.{take-all, take-suc, take-suc-set, drop-cons, drop-set-lt}
 use borrow.Author.Tests.{le-leb, lt-leb}
-use Rattle.clearing.proofs.Loop.{take-held}
+use Rattle.room.proofs.Counts.{take-held}
 use Rattle.exports_report.specs.Written.{written, count}
 
 pub record Copied (text before out : List ℕ) (i : ℕ) : Type 0 where

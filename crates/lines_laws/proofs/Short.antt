@@ -29,10 +29,10 @@ use Rattle.colregs.specs.declared.answer.Responsibility.the-variants as Respons
 use Rattle.colregs.specs.declared.answer.Rule.{Rule}
 use Rattle.colregs.specs.declared.answer.Rule.the-variants as Rule
 use Rattle.colregs.specs.Ruling.{ruleNumber}
-use Rattle.manoeuvre.specs.declared.answer.Side.{Side as Turn}
-use Rattle.manoeuvre.specs.declared.answer.Side.the-variants as Turn
-use Rattle.manoeuvre.specs.declared.answer.Limiting.{Limiting}
-use Rattle.manoeuvre.specs.declared.answer.Limiting.the-variants as Limiting
+use Rattle.manoeuvre.specs.declared.Side.{Side as Turn}
+use Rattle.manoeuvre.specs.declared.Side.the-variants as Turn
+use Rattle.manoeuvre.specs.declared.Limiting.{Limiting}
+use Rattle.manoeuvre.specs.declared.Limiting.the-variants as Limiting
 use Rattle.rulings.specs.declared.RuledManoeuvre.{RuledManoeuvre}
 use Rattle.lines.specs.Lines.{contactLine, sideField, passingField, limitingField, alterLine, refusedLine}
 

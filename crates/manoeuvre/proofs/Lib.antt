@@ -1,2 +1,2 @@
--- What the code of constraints and manoeuvres owes.
-pub mod Constrained
+-- What the code of manoeuvres owes.
+mod Sides

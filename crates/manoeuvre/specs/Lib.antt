@@ -1,3 +1,2 @@
--- Constraints and manoeuvres.
-pub mod Constraints
+-- Manoeuvres.
 pub mod Manoeuvre

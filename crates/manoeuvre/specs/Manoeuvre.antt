@@ -10,14 +10,14 @@ use Rattle.motion.specs.declared.units.Direction.{Direction}
 use Rattle.motion.specs.declared.units.Distance.{Distance}
 use Rattle.motion.specs.declared.units.RateOfTurn.{RateOfTurn}
 use Rattle.arguments.specs.Check.{zero}
-use Rattle.manoeuvre.specs.declared.constraints.PerhapsRate.{PerhapsRate}
-use Rattle.manoeuvre.specs.declared.constraints.PerhapsRate.the-variants as Rate
-use Rattle.manoeuvre.specs.declared.answer.Side.{Side}
-use Rattle.manoeuvre.specs.declared.answer.Side.the-variants as Side
-use Rattle.manoeuvre.specs.declared.answer.TurnTime.{TurnTime}
-use Rattle.manoeuvre.specs.declared.answer.TurnTime.the-variants.{Nothing, Of}
-use Rattle.manoeuvre.specs.declared.answer.Limiting.{Limiting}
-use Rattle.manoeuvre.specs.declared.answer.AvoidanceManoeuvre.{AvoidanceManoeuvre}
+use Rattle.constraints.specs.declared.PerhapsRate.{PerhapsRate}
+use Rattle.constraints.specs.declared.PerhapsRate.the-variants as Rate
+use Rattle.manoeuvre.specs.declared.Side.{Side}
+use Rattle.manoeuvre.specs.declared.Side.the-variants as Side
+use Rattle.manoeuvre.specs.declared.TurnTime.{TurnTime}
+use Rattle.manoeuvre.specs.declared.TurnTime.the-variants.{Nothing, Of}
+use Rattle.manoeuvre.specs.declared.Limiting.{Limiting}
+use Rattle.manoeuvre.specs.declared.AvoidanceManoeuvre.{AvoidanceManoeuvre}
 
 -- 60
 abbrev pub sixty : Float

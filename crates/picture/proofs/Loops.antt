@@ -11,8 +11,8 @@ use lib.ListN.{length, getD, set, take, length-append, length-take}
 use lib.Seq.{slice, slice-cons, slice-empty, take-suc-set}
 use Rattle.laws.specs.Fold.{fold}
 use Rattle.laws.proofs.Bools.{refuted}
-use Rattle.clearing.specs.Clearing.{maxContacts}
-use Rattle.clearing.proofs.Loop.{take-held}
+use Rattle.room.specs.Room.{maxContacts}
+use Rattle.room.proofs.Counts.{take-held}
 use Rattle.risk.specs.declared.CollisionRisk.{CollisionRisk}
 use Rattle.targets.specs.declared.TargetAssessment.{TargetAssessment}
 use Rattle.targets.specs.declared.PerhapsTarget.{PerhapsTarget}

@@ -5,7 +5,7 @@ use Prim.Native.Nat.{ℕ}
 use lib.Dec.{ltb}
 use lib.ListN.{length, take}
 use Rattle.laws.specs.Fold.{fold}
-use Rattle.clearing.specs.Clearing.{maxContacts}
+use Rattle.room.specs.Room.{maxContacts}
 use Rattle.risk.specs.declared.CollisionRisk.{CollisionRisk}
 use Rattle.targets.specs.declared.TargetAssessment.{TargetAssessment}
 use Rattle.picture.specs.declared.CollisionPicture.{CollisionPicture}

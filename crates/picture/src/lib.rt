@@ -4,8 +4,8 @@ ghost use mathlib.Core.List.{[], _∷_};
 ghost use lib.Dec.{eqb};
 ghost use lib.ListN.{length};
 ghost use Rattle.picture.specs.Picture as Spec;
-use clearing::MAX_CONTACTS;
 use risk::CollisionRisk;
+use room::MAX_CONTACTS;
 use targets::PerhapsTarget;
 use targets::TargetAssessment;
 use targets::is_at_least;
@@ -33,7 +33,7 @@ impl CollisionPicture {
     pub fn push(self, e: TargetAssessment) -> CollisionPicture
         ensures { λ r. ⌜ Spec.targets r ≡ Spec.pushed (Spec.targets self) e ⌝ }
     {
-        let at = clearing::held(self.count);
+        let at = room::held(self.count);
         let mut out = self;
         if at < MAX_CONTACTS {
             out.list[at] = e;
@@ -46,21 +46,21 @@ impl CollisionPicture {
     pub fn len(self) -> usize
         ensures { λ r. ⌜ r ≡ length (Spec.targets self) ⌝ }
     {
-        clearing::held(self.count)
+        room::held(self.count)
     }
 
     // Whether no target is assessed.
     pub fn is_empty(self) -> bool
         ensures { λ r. ⌜ r ≡ eqb (length (Spec.targets self)) 0 ⌝ }
     {
-        clearing::held(self.count) == 0
+        room::held(self.count) == 0
     }
 
     // The first that is listed under a number.
     pub fn target(self, target: u32) -> PerhapsTarget
         ensures { λ r. ⌜ r ≡ Spec.found target (Spec.targets self) ⌝ }
     {
-        let count = clearing::held(self.count);
+        let count = room::held(self.count);
         let mut found = PerhapsTarget::Nothing;
         let mut i: usize = 0;
         while i < count {
@@ -75,7 +75,7 @@ impl CollisionPicture {
     pub fn most_dangerous(self) -> PerhapsTarget
         ensures { λ r. ⌜ r ≡ Spec.mostDangerous (Spec.targets self) ⌝ }
     {
-        let count = clearing::held(self.count);
+        let count = room::held(self.count);
         let mut best = PerhapsTarget::Nothing;
         let mut i: usize = 0;
         while i < count {
@@ -99,7 +99,7 @@ impl CollisionPicture {
     pub fn at_least(self, least: CollisionRisk) -> CollisionPicture
         ensures { λ r. ⌜ Spec.targets r ≡ Spec.atLeast least (Spec.targets self) ⌝ }
     {
-        let count = clearing::held(self.count);
+        let count = room::held(self.count);
         let mut out = self;
         out.count = 0;
         let mut i: usize = 0;

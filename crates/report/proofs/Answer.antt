@@ -7,7 +7,7 @@ use lib.Ieee.{Float}
 use Rattle.situation.specs.declared.party.Party.{Party}
 use Rattle.situation.specs.declared.party.Perhaps.the-variants.{Unknown}
 use Rattle.situation.specs.declared.party.Visibility.{Visibility}
-use Rattle.manoeuvre.specs.declared.constraints.ManoeuvreConstraints.{ManoeuvreConstraints}
+use Rattle.constraints.specs.declared.ManoeuvreConstraints.{ManoeuvreConstraints}
 use Rattle.traffic.specs.declared.Entry.{Entry}
 use Rattle.rulings.specs.declared.RuledAnswer.{RuledAnswer}
 use Rattle.rulings.specs.Ruled.{ruledAnswer}

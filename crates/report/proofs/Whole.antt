@@ -20,7 +20,7 @@ use Rattle.situation.specs.Situation.{standard}
 use Rattle.colregs.specs.declared.answer.RulingAnswer.{RulingAnswer}
 use Rattle.colregs.specs.declared.answer.RulingAnswer.the-variants as Ruling
 use Rattle.colregs.specs.Colregs.{rulingAnswer}
-use Rattle.clearing.specs.Clearing.{maxContacts}
+use Rattle.room.specs.Room.{maxContacts}
 use Rattle.rulings.specs.declared.RuledAnswer.{RuledAnswer}
 use Rattle.rulings.specs.declared.RuledAnswer.the-variants as Ruled
 use Rattle.rulings.specs.Ruled.{situationOf}

@@ -9,9 +9,9 @@ use Rattle.arguments.specs.declared.Verdict.the-variants as Verdict
 use Rattle.policy.specs.declared.PolicyAnswer.{PolicyAnswer}
 use Rattle.policy.specs.declared.PolicyAnswer.the-variants as Policy
 use Rattle.situation.specs.declared.party.Perhaps.the-variants.{Unknown}
-use Rattle.manoeuvre.specs.declared.constraints.ManoeuvreConstraints.{ManoeuvreConstraints}
-use Rattle.manoeuvre.specs.declared.constraints.ConstraintsAnswer.{ConstraintsAnswer}
-use Rattle.manoeuvre.specs.declared.constraints.ConstraintsAnswer.the-variants as Constraints
+use Rattle.constraints.specs.declared.ManoeuvreConstraints.{ManoeuvreConstraints}
+use Rattle.constraints.specs.declared.ConstraintsAnswer.{ConstraintsAnswer}
+use Rattle.constraints.specs.declared.ConstraintsAnswer.the-variants as Constraints
 use Rattle.rulings.specs.declared.RuledAnswer.{RuledAnswer}
 use Rattle.rulings.specs.declared.RuledAnswer.the-variants as Ruled
 use Rattle.rulings.specs.Ruled.{ruledAnswer}

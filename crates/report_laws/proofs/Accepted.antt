@@ -14,8 +14,8 @@ use Rattle.arguments.specs.Check.{Check, verdict, vesselChecks, contactChecks, 
 use Rattle.situation.specs.declared.party.Party.{Party}
 use Rattle.situation.specs.declared.party.Perhaps.the-variants.{Unknown}
 use Rattle.situation.specs.Arguments.{perhapsChecks, partyChecks}
-use Rattle.manoeuvre.specs.Constraints.{alterationChecks, rateChecks, constraintChecks}
-use Rattle.clearing.specs.Clearing.{maxContacts}
+use Rattle.constraints.specs.Constraints.{alterationChecks, rateChecks, constraintChecks}
+use Rattle.room.specs.Room.{maxContacts}
 use Rattle.traffic.specs.declared.Entry.{Entry}
 use Rattle.traffic.specs.Traffic.{countChecks, entryChecks, contactsChecks}
 use Rattle.motion_laws.specs.Sound.{AllGood}

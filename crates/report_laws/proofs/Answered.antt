@@ -8,8 +8,8 @@ use Rattle.arguments.specs.declared.Verdict.{Verdict}
 use Rattle.arguments.specs.declared.Verdict.the-variants as Verdict
 use Rattle.policy.specs.declared.PolicyAnswer.{PolicyAnswer}
 use Rattle.policy.specs.declared.PolicyAnswer.the-variants as Policy
-use Rattle.manoeuvre.specs.declared.constraints.ConstraintsAnswer.{ConstraintsAnswer}
-use Rattle.manoeuvre.specs.declared.constraints.ConstraintsAnswer.the-variants as Constraints
+use Rattle.constraints.specs.declared.ConstraintsAnswer.{ConstraintsAnswer}
+use Rattle.constraints.specs.declared.ConstraintsAnswer.the-variants as Constraints
 use Rattle.rulings.specs.declared.RuledAnswer.{RuledAnswer}
 use Rattle.rulings.specs.declared.RuledAnswer.the-variants as Ruled
 use Rattle.text.specs.Text.{bytes}
@@ -21,7 +21,7 @@ use Rattle.sheet_record.specs.Record.{headerOf, rowsOf}
 use Rattle.sheet_values.specs.Values.{visibilityOf, ownOf}
 use Rattle.sheet.specs.Sheet.{sheetVerdict}
 use Rattle.contact_lines.specs.Contacts.{contactLines}
-use Rattle.clearing.specs.Clearing.{maxContacts}
+use Rattle.room.specs.Room.{maxContacts}
 use Rattle.sheet_record.proofs.Filling.{few-rows}
 use Rattle.lines_laws.proofs.Short.{refused-short}
 use Rattle.report.proofs.Whole.{answer-short, contacts-short}

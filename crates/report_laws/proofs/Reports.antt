@@ -28,10 +28,10 @@ use Rattle.situation.specs.Arguments.{partyChecks}
 use Rattle.facts.specs.Facts.{factsOf}
 use Rattle.colregs.specs.declared.answer.RulingAnswer.the-variants as RulingAnswer
 use Rattle.colregs.specs.Colregs.{rulingOf, rulingAnswer}
-use Rattle.manoeuvre.specs.declared.constraints.ConstraintsAnswer.the-variants as Constraints
-use Rattle.manoeuvre.specs.declared.constraints.PermittedSides.the-variants.{Either}
-use Rattle.manoeuvre.specs.declared.constraints.ManoeuvreConstraints.{ManoeuvreConstraints}
-use Rattle.manoeuvre.specs.Constraints.{alterationChecks, constraintsBy, constraintsAnswer}
+use Rattle.constraints.specs.declared.ConstraintsAnswer.the-variants as Constraints
+use Rattle.constraints.specs.declared.PermittedSides.the-variants.{Either}
+use Rattle.constraints.specs.declared.ManoeuvreConstraints.{ManoeuvreConstraints}
+use Rattle.constraints.specs.Constraints.{alterationChecks, constraintsBy, constraintsAnswer}
 use Rattle.choice.specs.declared.Sides.{Sides}
 use Rattle.choice.specs.declared.Choice.{Choice}
 use Rattle.choice.specs.declared.Choice.the-variants as Choice

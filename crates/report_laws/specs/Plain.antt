@@ -14,9 +14,9 @@ use Rattle.situation.specs.declared.party.Perhaps.the-variants.{Unknown}
 use Rattle.situation.specs.Situation.{standard}
 use Rattle.facts.specs.Facts.{factsOf}
 use Rattle.colregs.specs.Colregs.{rulingOf}
-use Rattle.manoeuvre.specs.declared.constraints.ManoeuvreConstraints.{ManoeuvreConstraints}
-use Rattle.manoeuvre.specs.declared.constraints.PermittedSides.the-variants.{Either}
-use Rattle.manoeuvre.specs.declared.constraints.PerhapsRate.the-variants as Rate
+use Rattle.constraints.specs.declared.ManoeuvreConstraints.{ManoeuvreConstraints}
+use Rattle.constraints.specs.declared.PermittedSides.the-variants.{Either}
+use Rattle.constraints.specs.declared.PerhapsRate.the-variants as Rate
 use Rattle.rulings.specs.declared.RuledAnswer.{RuledAnswer}
 use Rattle.rulings.specs.declared.RuledAnswer.the-variants as Ruled
 use Rattle.rulings.specs.Demand3.{OnAccepted}

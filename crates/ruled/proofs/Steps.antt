@@ -17,12 +17,12 @@ use Rattle.situation.specs.declared.party.Party.{Party}
 use Rattle.situation.specs.declared.party.Perhaps.{Perhaps}
 use Rattle.situation.specs.declared.party.Visibility.{Visibility}
 use Rattle.situation.specs.Arguments.{perhapsChecks, partyChecks}
-use Rattle.manoeuvre.specs.declared.answer.TurnTime.{TurnTime}
-use Rattle.manoeuvre.specs.declared.constraints.PerhapsRate.{PerhapsRate}
-use Rattle.manoeuvre.specs.declared.constraints.ManoeuvreConstraints.{ManoeuvreConstraints}
-use Rattle.manoeuvre.specs.Constraints.{constraintChecks}
+use Rattle.manoeuvre.specs.declared.TurnTime.{TurnTime}
+use Rattle.constraints.specs.declared.PerhapsRate.{PerhapsRate}
+use Rattle.constraints.specs.declared.ManoeuvreConstraints.{ManoeuvreConstraints}
+use Rattle.constraints.specs.Constraints.{constraintChecks}
 use Rattle.manoeuvre.specs.Manoeuvre.{turnTime}
-use Rattle.clearing.specs.declared.Moving.{Moving}
+use Rattle.passages.specs.declared.Moving.{Moving}
 use Rattle.clearing.specs.Clearing.{altered, floorOf, moving}
 use Rattle.choice.specs.declared.Sides.{Sides}
 use Rattle.choice.specs.declared.Chosen.{Chosen}

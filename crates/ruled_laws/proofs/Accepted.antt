@@ -18,10 +18,10 @@ use Rattle.facts.specs.Facts.{factsOf}
 use Rattle.colregs.specs.declared.answer.Ruling.{Ruling}
 use Rattle.colregs.specs.declared.answer.RulingAnswer.the-variants as RulingAnswer
 use Rattle.colregs.specs.Colregs.{rulingOf, rulingBy, rulingAnswer}
-use Rattle.manoeuvre.specs.declared.constraints.ManoeuvreConstraints.{ManoeuvreConstraints}
-use Rattle.manoeuvre.specs.Constraints.{constraintChecks}
+use Rattle.constraints.specs.declared.ManoeuvreConstraints.{ManoeuvreConstraints}
+use Rattle.constraints.specs.Constraints.{constraintChecks}
 use Rattle.trials.specs.Trials.{Limits}
-use Rattle.clearing.specs.declared.Target.{Target}
+use Rattle.passages.specs.declared.Target.{Target}
 use Rattle.traffic.specs.declared.Entry.{Entry}
 use Rattle.traffic.specs.Traffic.{targetOf, countChecks, entryChecks, contactsChecks}
 use Rattle.motion_laws.specs.Sound.{AllGood}

@@ -24,10 +24,10 @@ use Rattle.arguments.specs.Check as Check
 use Rattle.arguments.specs.Check.{verdict, encounterChecks}
 use Rattle.arguments.specs.declared.Verdict.{Verdict}
 use Rattle.arguments.specs.declared.Verdict.the-variants as Verdict
-use Rattle.manoeuvre.specs.declared.answer.Limiting.the-variants as Limiting
-use Rattle.clearing.specs.declared.Target.{Target}
-use Rattle.clearing.specs.declared.Passage.{Passage}
-use Rattle.clearing.specs.declared.Passage.the-variants.{Blocked, At}
+use Rattle.manoeuvre.specs.declared.Limiting.the-variants as Limiting
+use Rattle.passages.specs.declared.Target.{Target}
+use Rattle.passages.specs.declared.Passage.{Passage}
+use Rattle.passages.specs.declared.Passage.the-variants.{Blocked, At}
 use Rattle.clearing.specs.declared.Passing.{Passing}
 use Rattle.clearing.specs.declared.Clearance.{Clearance}
 use Rattle.clearing.specs.declared.Clearance.the-variants.{No, Yes}

@@ -25,9 +25,9 @@ use Rattle.situation.specs.declared.party.Visibility.{Visibility}
 use Rattle.situation.specs.Situation.{standard}
 use Rattle.facts.specs.Facts.{factsOf}
 use Rattle.colregs.specs.Colregs.{rulingOf}
-use Rattle.manoeuvre.specs.declared.answer.Side.{Side}
-use Rattle.manoeuvre.specs.declared.answer.Side.the-variants.{Starboard, Port}
-use Rattle.manoeuvre.specs.declared.constraints.ManoeuvreConstraints.{ManoeuvreConstraints}
+use Rattle.manoeuvre.specs.declared.Side.{Side}
+use Rattle.manoeuvre.specs.declared.Side.the-variants.{Starboard, Port}
+use Rattle.constraints.specs.declared.ManoeuvreConstraints.{ManoeuvreConstraints}
 use Rattle.trials.specs.Trials.{trials}
 use Rattle.trials.proofs.Climbing.{is-trial-list}
 use Rattle.trials.proofs.Listed.{ascending}

@@ -14,9 +14,9 @@ use Rattle.motion.specs.declared.units.Distance.{Distance}
 use Rattle.colregs.specs.declared.answer.RulingAnswer.{RulingAnswer}
 use Rattle.colregs.specs.declared.answer.RulingAnswer.the-variants as RulingAnswer
 use Rattle.colregs.specs.Colregs.{rulingAnswer}
-use Rattle.manoeuvre.specs.declared.constraints.ManoeuvreConstraints.{ManoeuvreConstraints}
-use Rattle.manoeuvre.specs.declared.answer.Side.{Side}
-use Rattle.manoeuvre.specs.declared.answer.Side.the-variants.{Starboard, Port}
+use Rattle.constraints.specs.declared.ManoeuvreConstraints.{ManoeuvreConstraints}
+use Rattle.manoeuvre.specs.declared.Side.{Side}
+use Rattle.manoeuvre.specs.declared.Side.the-variants.{Starboard, Port}
 use Rattle.choice.specs.declared.Sides.{Sides}
 use Rattle.choice_laws.specs.Smallest.{allows}
 use Rattle.traffic.specs.declared.Entry.{Entry}

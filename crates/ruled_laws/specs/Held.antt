@@ -4,7 +4,7 @@ use lib.Dec.{T}
 use lib.Ieee.{binary64, fits}
 use Rattle.motion_laws.specs.Sound.{HeldVessel, HeldContact}
 use Rattle.situation.specs.declared.party.Party.{Party}
-use Rattle.manoeuvre.specs.declared.constraints.ManoeuvreConstraints.{ManoeuvreConstraints}
+use Rattle.constraints.specs.declared.ManoeuvreConstraints.{ManoeuvreConstraints}
 use Rattle.traffic.specs.declared.Entry.{Entry}
 
 pub record HeldEntry (e : Entry) : Type 0 where

@@ -5,7 +5,7 @@ use mathlib.Core.List.{List}
 use Prim.Native.Nat.{ℕ, _≤_, _<_, min}
 use lib.ListN.{length, take}
 use Rattle.laws.specs.Fold.{fold}
-use Rattle.clearing.proofs.Loop.{take-held}
+use Rattle.room.proofs.Counts.{take-held}
 use Rattle.situation.specs.declared.party.Party.{Party}
 use Rattle.situation.specs.declared.party.Perhaps.{Perhaps}
 use Rattle.situation.specs.declared.party.Visibility.{Visibility}

@@ -26,10 +26,10 @@ use Rattle.situation.specs.Situation.{standard}
 use Rattle.colregs.specs.declared.answer.Ruling.{Ruling}
 use Rattle.colregs.specs.declared.answer.RulingAnswer.the-variants as RulingAnswer
 use Rattle.colregs.specs.Colregs.{rulingAnswer}
-use Rattle.manoeuvre.specs.declared.answer.Side.{Side}
-use Rattle.manoeuvre.specs.declared.answer.Side.the-variants.{Starboard, Port}
-use Rattle.manoeuvre.specs.declared.answer.Limiting.the-variants as Limiting
-use Rattle.manoeuvre.specs.declared.constraints.ManoeuvreConstraints.{ManoeuvreConstraints}
+use Rattle.manoeuvre.specs.declared.Side.{Side}
+use Rattle.manoeuvre.specs.declared.Side.the-variants.{Starboard, Port}
+use Rattle.manoeuvre.specs.declared.Limiting.the-variants as Limiting
+use Rattle.constraints.specs.declared.ManoeuvreConstraints.{ManoeuvreConstraints}
 use Rattle.manoeuvre.specs.Manoeuvre.{turnTime}
 use Rattle.trials.specs.Trials.{trials}
 use Rattle.clearing.specs.Clearing.{largest, floorOf, altered}

@@ -19,8 +19,8 @@ use Rattle.situation.specs.Arguments.{perhapsChecks, partyChecks}
 use Rattle.colregs.specs.declared.answer.RulingAnswer.{RulingAnswer}
 use Rattle.colregs.specs.declared.answer.RulingAnswer.the-variants as RulingAnswer
 use Rattle.colregs.specs.Colregs.{rulingAnswer}
-use Rattle.manoeuvre.specs.declared.constraints.ManoeuvreConstraints.{ManoeuvreConstraints}
-use Rattle.manoeuvre.specs.Constraints.{constraintChecks}
+use Rattle.constraints.specs.declared.ManoeuvreConstraints.{ManoeuvreConstraints}
+use Rattle.constraints.specs.Constraints.{constraintChecks}
 use Rattle.manoeuvre.specs.Manoeuvre.{turnTime}
 use Rattle.clearing.specs.Clearing.{altered, floorOf, moving}
 use Rattle.choice.specs.declared.Sides.{Sides}

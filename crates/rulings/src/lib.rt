@@ -6,9 +6,9 @@ ghost use Rattle.rulings.specs.Ruled as Spec;
 use choice::Sides;
 use colregs::answer::RulingAnswer;
 use elementary::error::Refusal;
-use manoeuvre::answer::Limiting;
-use manoeuvre::answer::Side;
-use manoeuvre::answer::TurnTime;
+use manoeuvre::Limiting;
+use manoeuvre::Side;
+use manoeuvre::TurnTime;
 use motion::units::Angle;
 use motion::units::Direction;
 use motion::units::Distance;
@@ -81,7 +81,7 @@ fn in_both(a: Sides, b: Sides) -> Sides
 pub fn shared_sides(own: Party, t: Traffic, visibility: Visibility, wind: Perhaps) -> Sides
     ensures { λ r. ⌜ r ≡ Spec.sharedSides own visibility wind (Around.contacts t) ⌝ }
 {
-    let count = clearing::held(t.count);
+    let count = room::held(t.count);
     let mut sides = Sides {
         starboard: true,
         port: true,

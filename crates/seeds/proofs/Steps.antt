@@ -16,13 +16,13 @@ use Rattle.course.specs.declared.Alteration.the-variants as Alteration
 use Rattle.course.specs.declared.Avoidance.{Avoidance}
 use Rattle.course.specs.declared.CourseAnswer.{CourseAnswer}
 use Rattle.course.specs.declared.CourseAnswer.the-variants as CourseAnswer
-use Rattle.manoeuvre.specs.declared.answer.Side.{Side}
-use Rattle.manoeuvre.specs.declared.answer.Side.the-variants.{Starboard, Port}
-use Rattle.manoeuvre.specs.declared.constraints.PermittedSides.{PermittedSides}
-use Rattle.manoeuvre.specs.declared.constraints.ManoeuvreConstraints.{ManoeuvreConstraints}
-use Rattle.manoeuvre.specs.Constraints.{permitsStarboard, permitsPort}
+use Rattle.manoeuvre.specs.declared.Side.{Side}
+use Rattle.manoeuvre.specs.declared.Side.the-variants.{Starboard, Port}
+use Rattle.constraints.specs.declared.PermittedSides.{PermittedSides}
+use Rattle.constraints.specs.declared.ManoeuvreConstraints.{ManoeuvreConstraints}
+use Rattle.constraints.specs.Constraints.{permitsStarboard, permitsPort}
 use Rattle.trials.specs.Trials.{trials}
-use Rattle.clearing.specs.declared.Moving.{Moving}
+use Rattle.passages.specs.declared.Moving.{Moving}
 use Rattle.clearing.specs.declared.Clearance.{Clearance}
 use Rattle.choice.specs.declared.Sides.{Sides}
 use Rattle.choice.specs.declared.Chosen.{Chosen}

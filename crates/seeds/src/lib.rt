@@ -8,11 +8,11 @@ ghost use Rattle.seeds.specs.Seeds as Spec;
 use choice::Choice;
 use choice::Sides;
 use clearing::Scene;
+use constraints::ManoeuvreConstraints;
 use course::Alteration;
 use course::Avoidance;
 use course::CourseAnswer;
-use manoeuvre::answer::Side;
-use manoeuvre::constraints::ManoeuvreConstraints;
+use manoeuvre::Side;
 use motion::units::Direction;
 use motion::vessel::Vessel;
 

@@ -17,8 +17,8 @@ use Rattle.arguments.specs.declared.Verdict.the-variants as Verdict
 use Rattle.arguments.specs.Check.{verdict, isDistance, vesselChecks, distanceChecks}
 use Rattle.arguments.proofs.Checks.{verdict-joined}
 use Rattle.situation.specs.declared.party.Party.{Party}
-use Rattle.manoeuvre.specs.Constraints.{alterationChecks}
-use Rattle.clearing.proofs.Loop.{take-held}
+use Rattle.constraints.specs.Constraints.{alterationChecks}
+use Rattle.room.proofs.Counts.{take-held}
 use Rattle.traffic.specs.declared.Entry.{Entry}
 use Rattle.traffic.specs.Traffic.{contactsChecks}
 use Rattle.sheet_words.specs.Word.{words}

@@ -7,7 +7,7 @@ use Rattle.elementary.specs.declared.error.Refusal.the-variants as Why
 use Rattle.arguments.specs.declared.Verdict.{Verdict}
 use Rattle.arguments.specs.declared.Verdict.the-variants as Verdict
 use Rattle.arguments.specs.Check.{Check, check, verdict, isDistance, vesselChecks, distanceChecks}
-use Rattle.manoeuvre.specs.Constraints.{alterationChecks}
+use Rattle.constraints.specs.Constraints.{alterationChecks}
 use Rattle.traffic.specs.declared.Entry.{Entry}
 use Rattle.traffic.specs.Traffic.{contactsChecks}
 use Rattle.sheet_words.specs.Word.{words}

@@ -6,7 +6,6 @@ ghost use Rattle.traffic.specs.Traffic as Around;
 ghost use Rattle.sheet.specs.Sheet as Spec;
 use arguments::Verdict;
 use elementary::error::Refusal;
-use manoeuvre::constraints;
 use motion::units::Angle;
 use motion::units::Distance;
 use sheet_record::Header;
@@ -21,7 +20,7 @@ fn check_categories(rows: Rows, rest: Verdict) -> Verdict
     ensures { λ r. ⌜ r ≡ Check.verdict (Spec.categoryChecks (Record.rows rows)) rest ⌝ }
 {
     let mut verdict = rest;
-    let mut i = clearing::held(rows.count);
+    let mut i = room::held(rows.count);
     while i > 0 {
         i -= 1;
         let row = rows.list[i];

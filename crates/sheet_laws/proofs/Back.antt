@@ -8,7 +8,7 @@ use lib.Dec.{eqb, leb, lit≤}
 use lib.ListN.{length, getD, take, drop, length-append}
 use borrow.Author.Tests.{eq-eqb, le-leb}
 use Rattle.elementary.specs.declared.error.Refusal.the-variants as Why
-use Rattle.clearing.specs.Clearing.{maxContacts}
+use Rattle.room.specs.Room.{maxContacts}
 use Rattle.sheet_words.specs.Word.{words, wordOf, kind, value, nextKind, inOrder, layout}
 use Rattle.sheet_record.specs.declared.Header.{Header}
 use Rattle.sheet_record.specs.declared.Row.{Row}

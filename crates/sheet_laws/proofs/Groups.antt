@@ -7,7 +7,7 @@ use native.Mathlib.Numerals.{add-one}
 use native.Mathlib.Omega.{arith}
 use lib.ListN.{length, getD, take, drop, length-drop}
 use lib.Seq.{getD-drop, take-all, take-suc}
-use Rattle.clearing.specs.Clearing.{maxContacts}
+use Rattle.room.specs.Room.{maxContacts}
 use Rattle.sheet_words.specs.Word.{value}
 use Rattle.sheet_record.specs.declared.Row.{Row}
 use Rattle.sheet_record.specs.Record.{contactCount, rowFrom, firstRows, rowsOf}

@@ -12,7 +12,7 @@ use Rattle.arguments.specs.declared.Verdict.the-variants as Verdict
 use Rattle.arguments.specs.Check.{Check, verdict, vesselChecks, contactChecks, distanceChecks}
 use Rattle.arguments.proofs.Checks.{verdict-joined}
 use Rattle.situation.specs.Arguments.{partyChecks}
-use Rattle.manoeuvre.specs.Constraints.{alterationChecks}
+use Rattle.constraints.specs.Constraints.{alterationChecks}
 use Rattle.traffic.specs.declared.Entry.{Entry}
 use Rattle.traffic.specs.Traffic.{entryChecks, contactsChecks}
 use Rattle.sheet_words.specs.Word.{words, layout}

@@ -9,7 +9,7 @@ use Rattle.elementary.specs.declared.error.Refusal.the-variants as Why
 use Rattle.arguments.specs.declared.Verdict.{Verdict}
 use Rattle.arguments.specs.declared.Verdict.the-variants as Verdict
 use Rattle.arguments.specs.Check.{verdict}
-use Rattle.clearing.specs.Clearing.{maxContacts}
+use Rattle.room.specs.Room.{maxContacts}
 use Rattle.sheet_words.specs.Word.{words, layout}
 use Rattle.sheet_record.specs.declared.Header.{Header}
 use Rattle.sheet_record.specs.declared.Row.{Row}

@@ -6,8 +6,8 @@ use native.Mathlib.Nat.{le-of-suc-le-suc, not-suc-le-zero}
 use native.Mathlib.Omega.{arith}
 use lib.ListN.{length, getD, take, length-map, length-take, List·getD-eq-default}
 use lib.Seq.{getD-take}
-use Rattle.clearing.specs.Clearing.{maxContacts}
-use Rattle.manoeuvre.specs.declared.answer.Limiting.the-variants as Limiting
+use Rattle.room.specs.Room.{maxContacts}
+use Rattle.manoeuvre.specs.declared.Limiting.the-variants as Limiting
 use Rattle.sheet_record.specs.declared.Row.{Row}
 use Rattle.sheet_limits.specs.Limits.{idAt}
 

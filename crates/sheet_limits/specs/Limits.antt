@@ -4,11 +4,11 @@ use Prim.Native.Nat.{ℕ}
 use lib.ListN.{getD}
 use Rattle.policy.specs.declared.PolicyAnswer.{PolicyAnswer}
 use Rattle.policy.specs.Policy.{policyAnswer}
-use Rattle.manoeuvre.specs.declared.answer.Limiting.{Limiting}
-use Rattle.manoeuvre.specs.declared.answer.Limiting.the-variants as Limiting
-use Rattle.manoeuvre.specs.declared.constraints.ConstraintsAnswer.{ConstraintsAnswer}
-use Rattle.manoeuvre.specs.declared.constraints.PermittedSides.the-variants.{Either}
-use Rattle.manoeuvre.specs.Constraints.{constraintsAnswer}
+use Rattle.manoeuvre.specs.declared.Limiting.{Limiting}
+use Rattle.manoeuvre.specs.declared.Limiting.the-variants as Limiting
+use Rattle.constraints.specs.declared.ConstraintsAnswer.{ConstraintsAnswer}
+use Rattle.constraints.specs.declared.PermittedSides.the-variants.{Either}
+use Rattle.constraints.specs.Constraints.{constraintsAnswer}
 use Rattle.sheet_record.specs.declared.Header.{Header}
 use Rattle.sheet_record.specs.declared.Row.{Row}
 use Rattle.sheet_values.specs.Values.{scaled}

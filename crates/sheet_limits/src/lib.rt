@@ -2,10 +2,10 @@
 ghost use mathlib.Core.Path.{_≡_};
 ghost use Rattle.sheet_record.specs.Record as Record;
 ghost use Rattle.sheet_limits.specs.Limits as Spec;
-use manoeuvre::answer::Limiting;
-use manoeuvre::constraints::ConstraintsAnswer;
-use manoeuvre::constraints::ManoeuvreConstraints;
-use manoeuvre::constraints::PermittedSides;
+use constraints::ConstraintsAnswer;
+use constraints::ManoeuvreConstraints;
+use constraints::PermittedSides;
+use manoeuvre::Limiting;
 use motion::units::Angle;
 use motion::units::Distance;
 use policy::CpaPolicy;
@@ -22,7 +22,7 @@ pub fn id_at(rows: Rows, limiting: Limiting) -> u32
     match limiting {
         Limiting::Nobody => 0,
         Limiting::Contact(place) => {
-            if place < clearing::held(rows.count) {
+            if place < room::held(rows.count) {
                 let row = rows.list[place];
                 return row.id;
             }

@@ -8,7 +8,7 @@ use lib.Dec.{leb}
 use lib.ListN.{length}
 use borrow.Author.Tests.{le-leb, lt-leb}
 use Rattle.elementary.specs.declared.error.Refusal.the-variants as Why
-use Rattle.clearing.specs.Clearing.{maxContacts}
+use Rattle.room.specs.Room.{maxContacts}
 use Rattle.sheet_words.specs.Word.{words, layout}
 use Rattle.sheet_words.proofs.Words as Words
 use Rattle.sheet_record.specs.declared.Readable.{Readable}

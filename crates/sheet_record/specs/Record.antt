@@ -5,7 +5,7 @@ use Prim.Native.Nat.{ℕ, zero, suc, _+_, _-_, _*_, _/_, _%_, min}
 use lib.Dec.{leb}
 use lib.ListN.{length, getD, take}
 use Rattle.elementary.specs.declared.error.Refusal.the-variants as Why
-use Rattle.clearing.specs.Clearing.{maxContacts}
+use Rattle.room.specs.Room.{maxContacts}
 use Rattle.sheet_words.specs.Word.{words, value, layout}
 use Rattle.sheet_record.specs.declared.Header.{Header}
 use Rattle.sheet_record.specs.declared.Row.{Row}

@@ -3,8 +3,8 @@ ghost use mathlib.Core.Path.{_≡_};
 ghost use lib.ListN.{length, take};
 ghost use Rattle.sheet_words.specs.Word as Words;
 ghost use Rattle.sheet_record.specs.Record as Spec;
-use clearing::MAX_CONTACTS;
 use elementary::error::Refusal;
+use room::MAX_CONTACTS;
 
 // Angles, speeds and distances count 1/1024, the TCPA limit seconds.
 pub struct Header {
@@ -95,7 +95,7 @@ pub fn rows_of(bytes: &[u8]) -> Rows
     ensures counted { λ r. ⌜ r .count ≡ length (Spec.rowsOf (Words.words (now (bytes .entry)))) ⌝ }
     ensures listed { λ r. ⌜ Spec.rows r ≡ Spec.rowsOf (Words.words (now (bytes .entry))) ⌝ }
 {
-    let n = clearing::held(contact_count(bytes));
+    let n = room::held(contact_count(bytes));
     let mut rows = Rows {
         count: 0,
         list: [row_from(bytes, 9); MAX_CONTACTS],

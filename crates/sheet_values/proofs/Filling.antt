@@ -5,8 +5,8 @@ use Prim.Native.Nat.{ℕ, suc, _+_, _<_, min}
 use native.Mathlib.Numerals.{add-one}
 use lib.ListN.{length, getD, set, take, length-set}
 use lib.Seq.{take-suc, take-suc-set}
-use Rattle.clearing.specs.Clearing.{maxContacts}
-use Rattle.clearing.proofs.Loop.{take-held}
+use Rattle.room.specs.Room.{maxContacts}
+use Rattle.room.proofs.Counts.{take-held}
 use Rattle.traffic.specs.declared.Entry.{Entry}
 use Rattle.sheet_record.specs.declared.Row.{Row}
 use Rattle.sheet_values.specs.Values.{entryOf}

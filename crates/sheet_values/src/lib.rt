@@ -4,12 +4,12 @@ ghost use mathlib.Core.List.{map};
 ghost use Rattle.sheet_record.specs.Record as Record;
 ghost use Rattle.traffic.specs.Traffic as Around;
 ghost use Rattle.sheet_values.specs.Values as Spec;
-use clearing::MAX_CONTACTS;
 use motion::units::Direction;
 use motion::units::Distance;
 use motion::units::Speed;
 use motion::vessel::Contact;
 use motion::vessel::Vessel;
+use room::MAX_CONTACTS;
 use sheet_record::Header;
 use sheet_record::Row;
 use sheet_record::Rows;
@@ -119,7 +119,7 @@ pub fn traffic_of(rows: Rows) -> Traffic
     ensures counted { λ r. ⌜ r .count ≡ rows .count ⌝ }
     ensures listed { λ r. ⌜ Around.contacts r ≡ map Spec.entryOf (Record.rows rows) ⌝ }
 {
-    let n = clearing::held(rows.count);
+    let n = room::held(rows.count);
     let any = rows.list[0];
     let mut t = Traffic {
         count: 0,

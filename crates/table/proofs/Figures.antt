@@ -35,19 +35,19 @@ use Rattle.colregs.specs.declared.answer.Encounter.{Encounter}
 use Rattle.colregs.specs.declared.answer.Responsibility.{Responsibility}
 use Rattle.colregs.specs.declared.answer.Rule.{Rule}
 use Rattle.colregs.specs.declared.answer.Ruling.{Ruling}
-use Rattle.manoeuvre.specs.declared.constraints.PermittedSides.{PermittedSides}
-use Rattle.manoeuvre.specs.declared.constraints.PermittedSides.the-variants as Sides
-use Rattle.manoeuvre.specs.declared.constraints.PerhapsRate.the-variants as Rate
-use Rattle.manoeuvre.specs.declared.constraints.ManoeuvreConstraints.{ManoeuvreConstraints}
-use Rattle.manoeuvre.specs.declared.constraints.ConstraintsAnswer.{ConstraintsAnswer}
-use Rattle.manoeuvre.specs.declared.constraints.ConstraintsAnswer.the-variants as Made
-use Rattle.manoeuvre.specs.declared.answer.Side.{Side}
-use Rattle.manoeuvre.specs.declared.answer.Side.the-variants as Side
-use Rattle.manoeuvre.specs.declared.answer.Limiting.{Limiting}
-use Rattle.manoeuvre.specs.declared.answer.Limiting.the-variants as Limiting
-use Rattle.manoeuvre.specs.declared.answer.TurnTime.{TurnTime}
-use Rattle.manoeuvre.specs.declared.answer.TurnTime.the-variants as Turn
-use Rattle.manoeuvre.specs.Constraints.{withRateOfTurn}
+use Rattle.constraints.specs.declared.PermittedSides.{PermittedSides}
+use Rattle.constraints.specs.declared.PermittedSides.the-variants as Sides
+use Rattle.constraints.specs.declared.PerhapsRate.the-variants as Rate
+use Rattle.constraints.specs.declared.ManoeuvreConstraints.{ManoeuvreConstraints}
+use Rattle.constraints.specs.declared.ConstraintsAnswer.{ConstraintsAnswer}
+use Rattle.constraints.specs.declared.ConstraintsAnswer.the-variants as Made
+use Rattle.manoeuvre.specs.declared.Side.{Side}
+use Rattle.manoeuvre.specs.declared.Side.the-variants as Side
+use Rattle.manoeuvre.specs.declared.Limiting.{Limiting}
+use Rattle.manoeuvre.specs.declared.Limiting.the-variants as Limiting
+use Rattle.manoeuvre.specs.declared.TurnTime.{TurnTime}
+use Rattle.manoeuvre.specs.declared.TurnTime.the-variants as Turn
+use Rattle.constraints.specs.Constraints.{withRateOfTurn}
 use Rattle.traffic.specs.declared.Entry.{Entry}
 use Rattle.avoid.specs.declared.ManoeuvreAnswer.{ManoeuvreAnswer}
 use Rattle.avoid.specs.declared.ManoeuvreAnswer.the-variants as Avoid

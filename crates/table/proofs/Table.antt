@@ -40,8 +40,8 @@ use Rattle.arguments.specs.Check.{encounterChecks, isDirection, isDistance, isS
 use Rattle.elementary.specs.declared.error.Refusal.the-variants as Refusal
 use Rattle.relative_motion.specs.declared.approach.Approach.the-variants as Approach
 use Rattle.risk.specs.declared.CollisionRisk.the-variants as Risk
-use Rattle.manoeuvre.specs.declared.answer.Side.the-variants as Turn
-use Rattle.manoeuvre.specs.declared.answer.Limiting.the-variants as Limiting
+use Rattle.manoeuvre.specs.declared.Side.the-variants as Turn
+use Rattle.manoeuvre.specs.declared.Limiting.the-variants as Limiting
 use Rattle.relative_motion.specs.Approach.{approach, approachFrom, closest, closingRate, cpaAnswer, cpaNumber, relativeSpeed, timeOf, timeToGo}
 use Rattle.bow.specs.Bow.{bowAnswer, bowNumber, crossing, determinant, notNegative}
 use Rattle.plot.specs.Plot.{plotAnswer, plotChecks, plotNumber, plotVerdict, relativeMotion, solution, solved}
@@ -61,10 +61,10 @@ use Rattle.policy.specs.Policy.{policyAnswer}
 use Rattle.risk.specs.Risk.{driftOf, driftPerHour, rank, riskAt}
 use Rattle.assessment.specs.Assess.{assessAnswer, assessment}
 use Rattle.trials.specs.Trials.{last, trial, trials, trialsFrom}
-use Rattle.manoeuvre.specs.Constraints.{constraintChecks, constraintsAnswer, constraintsNumber, withRateOfTurn}
+use Rattle.constraints.specs.Constraints.{constraintChecks, constraintsAnswer, constraintsNumber, withRateOfTurn}
 use Rattle.manoeuvre.specs.Manoeuvre as manoeuvres
-use Rattle.manoeuvre.specs.declared.constraints.PerhapsRate.the-variants as Rate
-use Rattle.manoeuvre.specs.declared.constraints.PermittedSides.the-variants as Sides
+use Rattle.constraints.specs.declared.PerhapsRate.the-variants as Rate
+use Rattle.constraints.specs.declared.PermittedSides.the-variants as Sides
 use Rattle.clearing.specs.Clearing.{altered, clearing, clears, floorOf, join, passage, tally}
 use Rattle.traffic.specs.Traffic.{contactsChecks, entryChecks, targetOf}
 use Rattle.choice.specs.Choice.{choice, choiceFor, first, orFirst, sideChoice, trialClears}

@@ -10,9 +10,9 @@ use lib.Seq.{slice, slice-cons, slice-empty, take-suc, take-suc-set}
 use Rattle.arguments.specs.declared.Verdict.{Verdict}
 use Rattle.arguments.specs.Check.{verdict}
 use Rattle.arguments.proofs.Checks.{verdict-joined}
-use Rattle.clearing.specs.declared.Moving.{Moving}
+use Rattle.passages.specs.declared.Moving.{Moving}
 use Rattle.clearing.specs.Clearing.{moving}
-use Rattle.clearing.proofs.Loop.{take-held, fits}
+use Rattle.room.proofs.Counts.{take-held, fits}
 use Rattle.traffic.specs.declared.Entry.{Entry}
 use Rattle.traffic.specs.Traffic.{targetOf, entryChecks, contactsChecks}
 

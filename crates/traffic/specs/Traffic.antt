@@ -7,9 +7,9 @@ use lib.Ieee.{binary64, ofBits}
 use Rattle.elementary.specs.declared.error.Refusal.the-variants as Why
 use Rattle.arguments.specs.Check.{zero, Check, check, contactChecks}
 use Rattle.situation.specs.Arguments.{partyChecks}
-use Rattle.clearing.specs.declared.Target.{Target}
-use Rattle.clearing.specs.declared.Moving.{Moving}
-use Rattle.clearing.specs.Clearing.{maxContacts}
+use Rattle.passages.specs.declared.Target.{Target}
+use Rattle.passages.specs.declared.Moving.{Moving}
+use Rattle.room.specs.Room.{maxContacts}
 use Rattle.traffic.specs.declared.Entry.{Entry}
 use Rattle.traffic.specs.declared.Traffic.{Traffic}
 

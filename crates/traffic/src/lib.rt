@@ -5,14 +5,14 @@ ghost use Rattle.arguments.specs.Check as Check;
 ghost use Rattle.clearing.specs.Clearing as Clearing;
 ghost use Rattle.traffic.specs.Traffic as Spec;
 use arguments::Verdict;
-use clearing::MAX_CONTACTS;
-use clearing::Moving;
 use clearing::Scene;
-use clearing::Target;
 use elementary::error::Refusal;
 use motion::units::Distance;
 use motion::vessel::Components;
 use motion::vessel::Contact;
+use passages::Moving;
+use passages::Target;
+use room::MAX_CONTACTS;
 use situation::check;
 use situation::party::Party;
 
@@ -71,7 +71,7 @@ fn nowhere() -> Moving
 pub fn scene_of(t: Traffic) -> Scene
     ensures { λ r. ⌜ Clearing.movings r ≡ map Clearing.moving (Spec.targets t) ⌝ }
 {
-    let count = clearing::held(t.count);
+    let count = room::held(t.count);
     let mut scene = Scene {
         count: 0,
         list: [nowhere(); MAX_CONTACTS],
@@ -79,7 +79,7 @@ pub fn scene_of(t: Traffic) -> Scene
     let mut i: usize = 0;
     while i < count {
         let e = t.list[i];
-        let m = clearing::moving_of(target_of(e));
+        let m = passages::moving_of(target_of(e));
         scene.list[i] = m;
         i += 1;
     }
@@ -107,7 +107,7 @@ pub fn check_contacts(t: Traffic, rest: Verdict) -> Verdict
     ensures { λ r. ⌜ r ≡ Check.verdict (Spec.contactsChecks (Spec.contacts t)) rest ⌝ }
 {
     let mut verdict = rest;
-    let mut i = clearing::held(t.count);
+    let mut i = room::held(t.count);
     while i > 0 {
         i -= 1;
         let e = t.list[i];

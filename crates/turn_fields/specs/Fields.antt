@@ -5,10 +5,10 @@ use Rattle.text.specs.Text.{bytes}
 use Rattle.text.specs.Decimal.{decimalOf}
 use Rattle.number_fields.specs.Fields.{quantityField}
 use Rattle.motion.specs.declared.units.Distance.{Distance}
-use Rattle.manoeuvre.specs.declared.answer.Side.{Side}
-use Rattle.manoeuvre.specs.declared.answer.Side.the-variants as Side
-use Rattle.manoeuvre.specs.declared.answer.Limiting.{Limiting}
-use Rattle.manoeuvre.specs.declared.answer.Limiting.the-variants as Limiting
+use Rattle.manoeuvre.specs.declared.Side.{Side}
+use Rattle.manoeuvre.specs.declared.Side.the-variants as Side
+use Rattle.manoeuvre.specs.declared.Limiting.{Limiting}
+use Rattle.manoeuvre.specs.declared.Limiting.the-variants as Limiting
 
 -- 'side (S or P, the list that held the trial, also at 0)'
 abbrev pub sideField : Side → List ℕ

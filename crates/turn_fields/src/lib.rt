@@ -4,8 +4,8 @@ ghost use mathlib.Core.List.{[], _∷_};
 ghost use Rattle.text.specs.Text.{shown, appended};
 ghost use Rattle.text.specs.Line.{spaced, line};
 ghost use Rattle.turn_fields.specs.Fields as Spec;
-use manoeuvre::answer::Limiting;
-use manoeuvre::answer::Side;
+use manoeuvre::Limiting;
+use manoeuvre::Side;
 use motion::units::Distance;
 use text::Text;
 

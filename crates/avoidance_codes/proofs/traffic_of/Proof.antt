@@ -3,7 +3,7 @@ use mathlib.Core.Path.{_≡_, refl, sym, subst}
 use native.Mathlib.Omega.{arith}
 use borrow.Author.Needs.{needs}
 use lib.ListN.{length}
-use Rattle.clearing.specs.Clearing.{maxContacts}
+use Rattle.room.specs.Room.{maxContacts}
 use Rattle.traffic.specs.Traffic.{contacts}
 use Rattle.avoidance_codes.proofs.Filling.{Filled, none, more, filled, placed}
 use Rattle.avoidance_codes.proofs.traffic_of.Statement.{statement}

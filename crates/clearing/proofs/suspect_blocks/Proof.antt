@@ -3,8 +3,10 @@ use mathlib.Core.Path.{_≡_, sym, _∙_, ap}
 use native.Mathlib.Omega.{arith}
 use borrow.Author.Needs.{needs}
 use lib.ListN.{length, length-map}
-use Rattle.clearing.specs.Clearing.{maxContacts, passageAt, movings, cleared, clearsAt}
-use Rattle.clearing.proofs.Loop.{one-blocks, whole, fits, no}
+use Rattle.room.specs.Room.{maxContacts}
+use Rattle.room.proofs.Counts.{fits}
+use Rattle.clearing.specs.Clearing.{passageAt, movings, cleared, clearsAt}
+use Rattle.clearing.proofs.Loop.{one-blocks, whole, no}
 use Rattle.clearing.proofs.suspect_blocks.Statement.{statement}
 use Rattle.clearing.proofs.suspect_blocks.Tie as tie
 

@@ -4,8 +4,10 @@ use native.Mathlib.Omega.{arith}
 use borrow.Author.Needs.{needs}
 use lib.ListN.{length, length-map}
 use Rattle.clearing.specs.declared.Tally.the-variants.{Free}
-use Rattle.clearing.specs.Clearing.{maxContacts, passageAt, movings, cleared, clearsAt}
-use Rattle.clearing.proofs.Loop.{left, step, done, stopped, whole, fits}
+use Rattle.room.specs.Room.{maxContacts}
+use Rattle.room.proofs.Counts.{fits}
+use Rattle.clearing.specs.Clearing.{passageAt, movings, cleared, clearsAt}
+use Rattle.clearing.proofs.Loop.{left, step, done, stopped, whole}
 use Rattle.clearing.proofs.tallied.Statement.{statement}
 use Rattle.clearing.proofs.tallied.Tie as tie
 

@@ -6,8 +6,8 @@ use lib.ListN.{length, length-map, length-take}
 use lib.Seq.{slice}
 use Rattle.laws.specs.Fold.{fold}
 use Rattle.laws.proofs.Fold.{fold-step, fold-done}
-use Rattle.clearing.specs.Clearing.{maxContacts}
-use Rattle.clearing.proofs.Loop.{fits}
+use Rattle.room.specs.Room.{maxContacts}
+use Rattle.room.proofs.Counts.{fits}
 use Rattle.text.specs.Text.{room, shown}
 use Rattle.sheet_record.specs.Record.{rows}
 use Rattle.text.proofs.Pieces.{with-piece}

@@ -2,7 +2,7 @@ use Prim.Native.Nat.{_≤_, min}
 use mathlib.Core.Path.{_≡_}
 use native.Mathlib.Omega.{arith}
 use lib.ListN.{length, length-map, length-take}
-use Rattle.clearing.specs.Clearing.{maxContacts}
+use Rattle.room.specs.Room.{maxContacts}
 use Rattle.sheet_record.specs.Record.{rows}
 use Rattle.encoding.proofs.Rows.{both}
 use Rattle.encoding.proofs.encode.Statement.{statement}

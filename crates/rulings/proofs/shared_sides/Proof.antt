@@ -6,8 +6,8 @@ use lib.ListN.{length, length-map}
 use lib.Seq.{slice}
 use Rattle.laws.specs.Fold.{fold}
 use Rattle.laws.proofs.Fold.{fold-step, fold-done}
-use Rattle.clearing.specs.Clearing.{maxContacts}
-use Rattle.clearing.proofs.Loop.{fits}
+use Rattle.room.specs.Room.{maxContacts}
+use Rattle.room.proofs.Counts.{fits}
 use Rattle.traffic.specs.Traffic.{contacts}
 use Rattle.rulings.specs.Ruled.{inBoth, either, joinSides}
 use Rattle.rulings.proofs.Sides.{all-joined}

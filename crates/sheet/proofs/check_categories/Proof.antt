@@ -2,8 +2,8 @@ use Prim.Native.Nat.{ℕ, _+_, _-_, _≤_, _<_, min}
 use mathlib.Core.Path.{_≡_}
 use native.Mathlib.Omega.{arith}
 use lib.ListN.{length, length-map}
-use Rattle.clearing.specs.Clearing.{maxContacts}
-use Rattle.clearing.proofs.Loop.{fits}
+use Rattle.room.specs.Room.{maxContacts}
+use Rattle.room.proofs.Counts.{fits}
 use Rattle.sheet_record.specs.Record.{rows}
 use Rattle.sheet.proofs.Steps.{from, begins, one-more, all-checked}
 use Rattle.sheet.proofs.check_categories.Statement.{statement}

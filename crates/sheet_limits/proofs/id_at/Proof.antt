@@ -2,7 +2,7 @@ use native.Mathlib.Omega.{arith}
 use lib.ListN.{length, length-map}
 use Prim.Native.Nat.{min, _≤_, _<_}
 use mathlib.Core.Path.{_≡_, refl, sym, ap, _∙_}
-use Rattle.clearing.specs.Clearing.{maxContacts}
+use Rattle.room.specs.Room.{maxContacts}
 use Rattle.sheet_record.specs.Record.{rows}
 use Rattle.sheet_limits.specs.Limits.{idAt}
 use Rattle.sheet_limits.proofs.Ids.{inside, beyond}

@@ -2,7 +2,7 @@ use Prim.Native.Nat.{ℕ, _+_, _-_, _≤_, _<_, min}
 use mathlib.Core.Path.{_≡_, refl}
 use native.Mathlib.Omega.{arith}
 use lib.ListN.{length, length-map}
-use Rattle.clearing.specs.Clearing.{maxContacts}
+use Rattle.room.specs.Room.{maxContacts}
 use Rattle.traffic.specs.Traffic.{contacts}
 use Rattle.sheet_record.specs.Record.{rows}
 use Rattle.sheet_values.proofs.Filling.{Filled, none, more, filled}

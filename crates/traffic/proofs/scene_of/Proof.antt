@@ -6,8 +6,8 @@ use mathlib.Core.Path.{_≡_, refl, sym, _∙_, ap}
 use native.Mathlib.Omega.{arith}
 use borrow.Author.Needs.{needs}
 use lib.ListN.{length, length-map}
-use Rattle.clearing.specs.Clearing.{maxContacts}
-use Rattle.clearing.proofs.Loop.{fits}
+use Rattle.room.specs.Room.{maxContacts}
+use Rattle.room.proofs.Counts.{fits}
 use Rattle.traffic.proofs.scene_of.Statement.{statement}
 use Rattle.traffic.proofs.scene_of.Tie as tie
 

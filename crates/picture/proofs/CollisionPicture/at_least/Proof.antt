@@ -2,9 +2,9 @@ use Prim.Native.Nat.{ℕ, _+_, _-_, _≤_, _<_, min}
 use mathlib.Core.Path.{_≡_, refl, sym, _∙_, ap}
 use native.Mathlib.Omega.{arith}
 use lib.ListN.{length, length-map}
-use Rattle.clearing.specs.Clearing.{maxContacts}
+use Rattle.room.specs.Room.{maxContacts}
 use mathlib.Core.List.{[]}
-use Rattle.clearing.proofs.Loop.{fits}
+use Rattle.room.proofs.Counts.{fits}
 use Rattle.picture.specs.Picture.{targets}
 use Rattle.picture.proofs.Loops.{left, step, done}
 use borrow.Author.Needs.{needs}

@@ -2,7 +2,7 @@ use Prim.Native.Nat.{ℕ, _+_, _-_, _≤_, _<_, min}
 use mathlib.Core.Path.{_≡_, refl, sym, _∙_, ap}
 use native.Mathlib.Omega.{arith}
 use lib.ListN.{length, length-map}
-use Rattle.clearing.specs.Clearing.{maxContacts}
+use Rattle.room.specs.Room.{maxContacts}
 use lib.Dec.{eqb}
 use Rattle.picture.specs.Picture.{targets}
 use Rattle.picture.proofs.Loops.{counted}

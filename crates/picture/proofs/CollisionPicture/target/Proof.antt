@@ -2,11 +2,11 @@ use Prim.Native.Nat.{ℕ, _+_, _-_, _≤_, _<_, min}
 use mathlib.Core.Path.{_≡_, refl, sym, _∙_, ap}
 use native.Mathlib.Omega.{arith}
 use lib.ListN.{length, length-map}
-use Rattle.clearing.specs.Clearing.{maxContacts}
+use Rattle.room.specs.Room.{maxContacts}
 use lib.Seq.{slice}
 use Rattle.laws.specs.Fold.{fold}
 use Rattle.laws.proofs.Fold.{fold-step, fold-done}
-use Rattle.clearing.proofs.Loop.{fits}
+use Rattle.room.proofs.Counts.{fits}
 use Rattle.targets.specs.declared.PerhapsTarget.the-variants.{Nothing}
 use Rattle.picture.specs.Picture.{targets, orThis, found}
 use Rattle.picture.proofs.Loops.{folded}

@@ -1,0 +1,2 @@
+-- What the code of constraints owes.
+pub mod Constrained

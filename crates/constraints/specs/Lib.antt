@@ -1,0 +1,2 @@
+-- The constraints of a manoeuvre.
+pub mod Constraints

@@ -1,0 +1,2 @@
+-- What the code of one contact owes.
+mod Steps

@@ -1,0 +1,2 @@
+-- What one contact does to a course.
+pub mod Passages

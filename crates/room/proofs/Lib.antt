@@ -1,0 +1,2 @@
+-- Laws on counts and the room.
+pub mod Counts

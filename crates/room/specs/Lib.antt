@@ -1,0 +1,2 @@
+-- The room for contacts.
+pub mod Room
