@@ -17,6 +17,9 @@ int-to-float-v : tie.Need-int-to-float-v
 unfolding inFloat
 int-to-float-v c = le→leb (c .before .args .e * (c .before .args .f * c .before .args .f) / 32) (2 ^ 53) (omega arith)
 
+cubic-requires : tie.Need-cubic-requires
+cubic-requires c κs = search needs
+
 nearer-requires : tie.Need-nearer-requires
 nearer-requires c κs = search needs
 
@@ -25,7 +28,13 @@ nearer-requires-2 c κs = search needs
 
 int-to-float-z : tie.Need-int-to-float-z
 unfolding inFloat
-int-to-float-z c = le→leb (c .before .before .before .before .args .e / 32) (2 ^ 53) (omega arith)
+int-to-float-z c = le→leb (c .before .before .before .before .before .args .e / 32) (2 ^ 53) (omega arith)
+
+cubic-requires-2 : tie.Need-cubic-requires-2
+cubic-requires-2 c κs = search needs
+
+cubic-requires-3 : tie.Need-cubic-requires-3
+cubic-requires-3 c κs = search needs
 
 steps-requires : tie.Need-steps-requires
 steps-requires c κs = search needs
@@ -40,8 +49,11 @@ rest-spec =
     mul-v
     mul-v-2
     int-to-float-v
+    cubic-requires
     nearer-requires
     nearer-requires-2
     int-to-float-z
+    cubic-requires-2
+    cubic-requires-3
     steps-requires
     returns)

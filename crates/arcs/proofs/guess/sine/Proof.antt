@@ -10,6 +10,12 @@ int-to-float-s : tie.Need-int-to-float-s
 unfolding inFloat
 int-to-float-s c = le→leb (c .before .args .x / 32) (2 ^ 53) (omega arith)
 
+quintic-requires : tie.Need-quintic-requires
+quintic-requires c κs = search needs
+
+quintic-requires-2 : tie.Need-quintic-requires-2
+quintic-requires-2 c κs = search needs
+
 steps-requires : tie.Need-steps-requires
 steps-requires c κs = search needs
 
@@ -17,4 +23,4 @@ returns : tie.Need-returns
 returns c = search needs
 
 pub sine-spec : {M : Type 1} → statement M
-sine-spec = tie.close (tie.spec int-to-float-s steps-requires returns)
+sine-spec = tie.close (tie.spec int-to-float-s quintic-requires quintic-requires-2 steps-requires returns)

@@ -14,6 +14,12 @@ int-to-float-t-2 : tie.Need-int-to-float-t-2
 unfolding inFloat
 int-to-float-t-2 c = le→leb (c .before .before .args .u / 32) (2 ^ 53) (omega arith)
 
+quintic-requires : tie.Need-quintic-requires
+quintic-requires c κs = search needs
+
+quintic-requires-2 : tie.Need-quintic-requires-2
+quintic-requires-2 c κs = search needs
+
 steps-requires : tie.Need-steps-requires
 steps-requires c κs = search needs
 
@@ -21,4 +27,12 @@ returns : tie.Need-returns
 returns c = search needs
 
 pub tangent-spec : {M : Type 1} → statement M
-tangent-spec = tie.close (tie.spec int-to-float-t int-to-float-t-2 steps-requires returns)
+tangent-spec =
+    tie.close
+    (tie.spec
+    int-to-float-t
+    int-to-float-t-2
+    quintic-requires
+    quintic-requires-2
+    steps-requires
+    returns)
