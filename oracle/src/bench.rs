@@ -11,11 +11,24 @@ use crate::{assessment, calls, motion, port, ruling, sheet, sheet_compare, traff
 const COUNT: usize = 4096;
 const ROUNDS: usize = 400;
 
-/// Calls of each function where instructions are counted.
+/// Calls of a function where instructions are counted.
 const COUNTED: usize = 1000;
 
-/// Calls each of the port's functions that often, on inputs as above, and nothing of the Rust's.
-pub fn calls() {
+/// Calls the port's functions of a part, for a tool that counts instructions by symbol: each of `elementary` and `module` 1,000 times, on inputs as
+/// above; the ruled search of `worst` once, of `typical` 16 times; the report of `report` on 8 sheets of 8 contacts.
+pub fn calls(part: &str) {
+    match part {
+        "elementary" => elementary_calls(),
+        "module" => module_calls(),
+        "worst" => drop(black_box(RuledCase::worst().port(1))),
+        "typical" => RuledCase::usual().iter().for_each(|case| drop(black_box(case.port(1)))),
+        "report" => sheet_compare::accepted(8, 8).iter().for_each(|sheet| drop(black_box(port::report(sheet, &mut [0; 8192])))),
+        _ => panic!("calls elementary | module | worst | typical | report"),
+    }
+}
+
+/// Nothing of the Rust's is called, which would call the same functions.
+fn elementary_calls() {
     let mut random = Random::new(7);
     for _ in 0..COUNTED {
         let (x, y) = (random.unit() * 1000.0, random.unit() * 1000.0 - 500.0);
@@ -23,6 +36,15 @@ pub fn calls() {
         let (angle, other, sine) = (random.unit() * 32.0 - 16.0, random.unit() * 32.0 - 16.0, random.unit());
         black_box((port::sin(angle), port::cos(other), port::asin(sine), port::atan2(x - 500.0, y)));
     }
+}
+
+fn module_calls() {
+    for f in &motion::FUNCTIONS {
+        f.answered(COUNTED).into_iter().for_each(|words| drop(black_box((f.port)(f.parts - 1, words))));
+    }
+    ruling::answered(COUNTED).into_iter().for_each(|case| drop(black_box(case.port(1))));
+    assessment::answered(COUNTED).into_iter().for_each(|words| drop(black_box(assessment::port(1, words))));
+    avoidance::answered(COUNTED).into_iter().for_each(|case| drop(black_box(case.port(1))));
 }
 
 /// Nanoseconds a call, the best of three runs over the same inputs.

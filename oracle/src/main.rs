@@ -4,7 +4,7 @@
 //! `oracle sheet`: prints what the program `encounter` has to print for the sheet on standard input.
 //! `oracle vectors`: writes the records and answers that the gate replays.
 //! `oracle bench`: measures the port beside the Rust.
-//! `oracle calls`: calls the port's elementary functions 1,000 times each, for a tool that counts instructions.
+//! `oracle calls [PART]`: calls the port's functions of `elementary`, `module`, `worst`, `typical` or `report`, for a tool that counts instructions.
 
 mod arcs;
 mod assessment;
@@ -40,9 +40,9 @@ fn main() {
         Some("sheet") => sheet_compare::print(),
         Some("vectors") => vectors::write(),
         Some("bench") => bench::all(),
-        Some("calls") => bench::calls(),
+        Some("calls") => bench::calls(words.get(1).map_or("elementary", String::as_str)),
         _ => {
-            eprintln!("oracle compare [N [PART]] | outcomes [N [PART]] | sheet | vectors | bench | calls");
+            eprintln!("oracle compare [N [PART]] | outcomes [N [PART]] | sheet | vectors | bench | calls [PART]");
             std::process::exit(2);
         }
     }
