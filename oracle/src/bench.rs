@@ -15,15 +15,20 @@ const ROUNDS: usize = 400;
 const COUNTED: usize = 1000;
 
 /// Calls the port's functions of a part, for a tool that counts instructions by symbol: each of `elementary` and `module` 1,000 times, on inputs as
-/// above; the ruled search of `worst` once, of `typical` 16 times; the report of `report` on 8 sheets of 8 contacts.
+/// above; the ruled search of `worst` once, of `typical` 16 times.
 pub fn calls(part: &str) {
     match part {
         "elementary" => elementary_calls(),
         "module" => module_calls(),
-        "worst" => drop(black_box(RuledCase::worst().port(1))),
-        "typical" => RuledCase::usual().iter().for_each(|case| drop(black_box(case.port(1)))),
-        "report" => sheet_compare::accepted(8, 8).iter().for_each(|sheet| drop(black_box(port::report(sheet, &mut [0; 8192])))),
-        _ => panic!("calls elementary | module | worst | typical | report"),
+        "worst" => each(vec![RuledCase::worst()], |case| case.port(1)),
+        "typical" => each(RuledCase::usual(), |case| case.port(1)),
+        _ => panic!("calls elementary | module | worst | typical"),
+    }
+}
+
+fn each<T, R>(cases: Vec<T>, f: impl Fn(T) -> R) {
+    for case in cases {
+        black_box(f(black_box(case)));
     }
 }
 
@@ -40,11 +45,11 @@ fn elementary_calls() {
 
 fn module_calls() {
     for f in &motion::FUNCTIONS {
-        f.answered(COUNTED).into_iter().for_each(|words| drop(black_box((f.port)(f.parts - 1, words))));
+        each(f.answered(COUNTED), |words| (f.port)(f.parts - 1, words));
     }
-    ruling::answered(COUNTED).into_iter().for_each(|case| drop(black_box(case.port(1))));
-    assessment::answered(COUNTED).into_iter().for_each(|words| drop(black_box(assessment::port(1, words))));
-    avoidance::answered(COUNTED).into_iter().for_each(|case| drop(black_box(case.port(1))));
+    each(ruling::answered(COUNTED), |case| case.port(1));
+    each(assessment::answered(COUNTED), |words| assessment::port(1, words));
+    each(avoidance::answered(COUNTED), |case| case.port(1));
 }
 
 /// Nanoseconds a call, the best of three runs over the same inputs.

@@ -4,7 +4,7 @@
 //! `oracle sheet`: prints what the program `encounter` has to print for the sheet on standard input.
 //! `oracle vectors`: writes the records and answers that the gate replays.
 //! `oracle bench`: measures the port beside the Rust.
-//! `oracle calls [PART]`: calls the port's functions of `elementary`, `module`, `worst`, `typical` or `report`, for a tool that counts instructions.
+//! `oracle calls [PART]`: calls the port's functions of `elementary`, `module`, `worst` or `typical`, for a tool that counts instructions.
 
 mod arcs;
 mod assessment;
