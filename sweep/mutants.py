@@ -1,8 +1,7 @@
-#!/usr/bin/env python3
 """Makes single faults in the crates' code and lists those that are still proved.
 
-    sweep/mutants.py [N]
-    sweep/mutants.py program
+    python3 sweep/mutants.py [N]
+    python3 sweep/mutants.py program
 
 Copies the repository to target/sweep, puts N faults (default 240) there as must-fail edits, spread over all crates with code, and runs
 `rt must-fail`. A fault is one of: a comparison made strict, made weak or turned round; the operands of a difference or a quotient

@@ -25,6 +25,10 @@ columns a b ha hb =
       low-low = half-le (a % 2 ^ 29) (b % 2 ^ 29) (omega arith) (omega arith);
     }
 
+-- a number from its halves
+back : (x : ℕ) → 2 ^ 29 * (x / 2 ^ 29) + x % 2 ^ 29 ≡ x
+back x = omega arith
+
 expand : (a1 a0 b1 b0 : ℕ) → (2 ^ 29 * a1 + a0) * (2 ^ 29 * b1 + b0) ≡ 2 ^ 58 * (a1 * b1) + 2 ^ 29 * (a1 * b0 + a0 * b1) + a0 * b0
 expand a1 a0 b1 b0 = omega arith
 
@@ -46,9 +50,6 @@ product a b = carry (a1 * b1) (a1 * b0 + a0 * b1) (a0 * b0) ∙ ap (λ x. x / 2 
     b0 : ℕ
     b0 = b % 2 ^ 29
 
-    back : (x : ℕ) → 2 ^ 29 * (x / 2 ^ 29) + x % 2 ^ 29 ≡ x
-    back x = omega arith
-
     both : (2 ^ 29 * a1 + a0) * (2 ^ 29 * b1 + b0) ≡ a * b
     both = rw (back a, back b) refl
 
@@ -64,9 +65,6 @@ two-columns z q = cut (z / 2 ^ 29 * q) (z % 2 ^ 29 * q) ∙ ap (λ x. x / 2 ^ 58
 
     join : (z1 z0 q : ℕ) → 2 ^ 29 * (z1 * q) + z0 * q ≡ (2 ^ 29 * z1 + z0) * q
     join z1 z0 q = omega arith
-
-    back : (x : ℕ) → 2 ^ 29 * (x / 2 ^ 29) + x % 2 ^ 29 ≡ x
-    back x = omega arith
 
 pub small-top : (z q : ℕ) → z ≤ 2 ^ 58 → q ≤ 2 ^ 33 → z / 2 ^ 29 * q ≤ 2 ^ 62
 small-top z q hz hq = omega (arith, mul-le-mul top hq)
