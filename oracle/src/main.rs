@@ -20,6 +20,7 @@ mod port;
 mod ruling;
 mod sheet_compare;
 mod sheet_inputs;
+mod sheet_winds;
 mod vectors;
 
 // The listed Rust, unchanged, on the port's elementary functions.

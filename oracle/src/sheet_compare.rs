@@ -2,6 +2,7 @@
 
 use std::collections::BTreeMap;
 use std::io::{stdin, stdout, ErrorKind, Read, Result, Write};
+use std::ops::Range;
 use std::path::Path;
 use std::process::{Command, Output, Stdio};
 use std::thread::sleep;
@@ -11,8 +12,9 @@ use crate::big::parts;
 use crate::compare::{generator, run};
 use crate::inputs::Random;
 use crate::port;
-use crate::sheet::{answer, decimal, printed, Values, MOST_BYTES};
+use crate::sheet::{answer, decimal, printed, Values, MOST_BYTES, PARTS};
 use crate::sheet_inputs::{random_sheet, sample, systematic, SIXTEENTH};
+use crate::sheet_winds;
 
 const NAME: &str = "sheets";
 
@@ -85,6 +87,53 @@ pub fn stated() -> Vec<(Vec<u8>, &'static str)> {
     ]
 }
 
+/// Sheets that tell the wind, and lines that follow by hand from request R-1 and, for vessels under sail, from Rule 12(a).
+fn stated_with_wind() -> Vec<(Vec<u8>, &'static str)> {
+    let base = [0.0, 10.0, 2.0, 0.0, 1.0, 0.0, 180.0, 1.0, 1800.0];
+    let from = |degrees: f64, values: Values| values.blown((degrees * PARTS) as u32).bytes();
+    let with = |place: usize, x: f64| {
+        let mut numbers = base;
+        numbers[place] = x;
+        numbers
+    };
+    let [beside, beyond, unknown] =
+        [[1.0, 90.0, 4.0, 0.0, 10.0, 2.0], [1.0, 90.0, 10_001.0, 0.0, 10.0, 2.0], [1.0, 90.0, 4.0, 0.0, 10.0, 8.0]];
+    let [contact, wind] = [36..60, 36..40].map(|range: Range<usize>| move |sheet: &[u8]| sheet[range.clone()].to_vec());
+    let plain = Values::of(base, &[beside]).bytes();
+    let windy = from(90.0, Values::of(base, &[beside]));
+    vec![
+        // Power-driven vessels take no notice of it.
+        (from(90.0, sample()), "CONTACT 7 CLOSING 0.000 1440 DANGEROUS OVERTAKING GIVEWAY 13\nALTER S 15.000 15.000 1.035 7\n"),
+        (from(0.0, Values::of(base, &[])), "ALTER S 0.000 0.000 FREE NONE\n"),
+        // Both on the port tack: unknown without the wind; the one to windward keeps clear, and own craft is to windward of a vessel to
+        // starboard where the wind comes from port, up to the line of sight being square to it.
+        (plain.clone(), "CONTACT 1 STATIONARY 4.000 - OPENING CROSSING-S UNDETERMINED 12\nALTER S 0.000 0.000 4.000 1\n"),
+        (windy.clone(), "CONTACT 1 STATIONARY 4.000 - OPENING CROSSING-S STANDON 12\nALTER S 0.000 0.000 4.000 1\n"),
+        (from(270.0, Values::of(base, &[beside])), "CONTACT 1 STATIONARY 4.000 - OPENING CROSSING-S GIVEWAY 12\nALTER S 0.000 0.000 4.000 1\n"),
+        (from(0.0, Values::of(base, &[beside])), "CONTACT 1 STATIONARY 4.000 - OPENING CROSSING-S STANDON 12\nALTER S 0.000 0.000 4.000 1\n"),
+        (
+            from(359.9990234375, Values::of(base, &[beside])),
+            "CONTACT 1 STATIONARY 4.000 - OPENING CROSSING-S GIVEWAY 12\nALTER S 0.000 0.000 4.000 1\n",
+        ),
+        // 360 and more; the order: categories, limits, wind, contacts.
+        (from(360.0, Values::of(base, &[beside])), "REFUSED 1\n"),
+        (from(262_143.0, Values::of(base, &[beside])), "REFUSED 1\n"),
+        (from(360.0, Values::of(base, &[unknown])), "REFUSED 16\n"),
+        (from(360.0, Values::of(with(7, 10_001.0), &[beside])), "REFUSED 3\n"),
+        (from(360.0, Values::of(base, &[beyond])), "REFUSED 1\n"),
+        (from(90.0, Values::of(base, &[beyond])), "REFUSED 3\n"),
+        // The wind twice, after the contact, before the TCPA limit; and a group that is cut short after it.
+        ([&windy[..40], &wind(&windy), &windy[40..]].concat(), "REFUSED 15\n"),
+        ([&plain[..36], &contact(&plain), &wind(&windy)].concat(), "REFUSED 15\n"),
+        ([&windy[..32], &wind(&windy), &windy[32..36], &contact(&plain)].concat(), "REFUSED 15\n"),
+        (windy[..windy.len() - 4].to_vec(), "REFUSED 15\n"),
+        // Sizes: 33 contacts, all that fit, one more.
+        (from(90.0, Values::of(base, &[beside; 33])), "REFUSED 14\n"),
+        (from(360.0, Values::of(base, &[beside; 169])), "REFUSED 14\n"),
+        (from(90.0, Values::of(base, &[beside; 170])), "REFUSED 15\n"),
+    ]
+}
+
 /// The words of document 01's sample sheet, as they stand there.
 fn sample_bytes() -> Vec<u8> {
     let words = "00000000 10002800 20000000 30000000 40000400 50000000 60016800 70000400 80000708 90000007 A0000000 B0001000 C0000000 \
@@ -95,7 +144,7 @@ fn sample_bytes() -> Vec<u8> {
 /// Whether the oracle's own lines are as stated.
 fn compare_stated() -> bool {
     assert_eq!(sample().bytes(), sample_bytes());
-    let stated = stated();
+    let stated = [stated(), stated_with_wind()].concat();
     run("sheets as stated", stated.len() as u64, |i, _| {
         let (bytes, wanted) = &stated[i as usize];
         let got = String::from_utf8(printed(bytes)).expect("text");
@@ -201,6 +250,7 @@ impl Tally {
         if let Ok(values) = Values::read(sheet) {
             let size = ["0", "1 to 4", "5 to 16", "17 to 32"][[0, 4, 16].iter().filter(|most| values.contacts.len() > **most).count()];
             self.add("contacts", size, 1);
+            self.add("wind", if values.wind.is_some() { "told" } else { "not told" }, 1);
             self.count_ties(&values, text);
         }
     }
@@ -229,16 +279,18 @@ impl Tally {
     }
 }
 
-/// The sheets that are compared: the stated ones, the systematic ones, then random ones.
+/// The sheets that are compared: the stated ones, the systematic ones, then random ones, every other with a wind.
 struct Sheets(Vec<Vec<u8>>);
 
 impl Sheets {
     fn new() -> Sheets {
-        Sheets(stated().into_iter().map(|(bytes, _)| bytes).chain(systematic()).collect())
+        let stated = [stated(), stated_with_wind()].concat().into_iter().map(|(bytes, _)| bytes);
+        Sheets(stated.chain(systematic()).chain(sheet_winds::systematic()).collect())
     }
 
     fn sheet(&self, i: u64, random: &mut Random) -> Vec<u8> {
-        self.0.get(i as usize).cloned().unwrap_or_else(|| random_sheet(i, random))
+        let drawn = |random: &mut Random| if i % 2 == 0 { random_sheet(i / 2, random) } else { sheet_winds::random_sheet(i / 2, random) };
+        self.0.get(i as usize).cloned().unwrap_or_else(|| drawn(random))
     }
 }
 
@@ -305,8 +357,9 @@ const OCCURRING: &[&str] = &[
     " STANDON ", " BOTH ", " UNDETERMINED ", " 12\n", " 13\n", " 14\n", " 15\n", " 17\n", " 18\n", " 19\n",
 ];
 
-/// Sheets that are replayed.
+/// Sheets that are replayed: so many without the wind, and so many with it.
 const REPLAYED: usize = 300;
+const REPLAYED_WITH_WIND: usize = 120;
 
 /// The sheets that `sheet_main` replays, one a line in hexadecimal, and the lines that are to be printed, an empty one after each
 /// sheet's.
@@ -319,7 +372,11 @@ pub fn replayed() -> (String, String) {
     drawn.retain(|sheet| sheet.len() <= 160);
     let stated = stated().into_iter().map(|(bytes, _)| bytes);
     let some = systematic().into_iter().step_by(31);
-    let sheets: Vec<_> = stated.chain(some).chain(large).chain(drawn).take(REPLAYED).collect();
+    let sheets = stated.chain(some).chain(large).chain(drawn).take(REPLAYED);
+    let drawn = (0..400).map(|i| sheet_winds::random_sheet(i, &mut random)).filter(|sheet| sheet.len() <= 160);
+    let stated = stated_with_wind().into_iter().map(|(bytes, _)| bytes);
+    let windy = stated.chain(sheet_winds::systematic().into_iter().step_by(67)).chain(drawn).take(REPLAYED_WITH_WIND);
+    let sheets: Vec<_> = sheets.chain(windy).collect();
     let lines = sheets.iter().map(|sheet| hexadecimal(sheet) + "\n").collect();
     let answers: String = sheets.iter().map(|sheet| answer(sheet).0 + "\n").collect();
     for words in OCCURRING {

@@ -10,7 +10,7 @@ use crate::motion::any;
 use crate::sheet::{answer, kind, Values, BASE, EACH, MOST_BYTES, PARTS, VALUE};
 
 /// The limits of accepted values.
-const CIRCLE: u32 = 360 << 10;
+pub const CIRCLE: u32 = 360 << 10;
 const FASTEST: u32 = 1000 << 10;
 const FARTHEST: u32 = 10_000 << 10;
 const REVERSAL: u32 = 180 << 10;
@@ -35,10 +35,11 @@ impl Values {
     pub fn of(base: [f64; BASE], contacts: &[[f64; EACH]]) -> Values {
         let value = |place: usize, x: f64| (if is_whole(place) { x } else { x * PARTS }) as u32;
         let contact = |numbers: &[f64; EACH]| std::array::from_fn(|i| value(BASE + i, numbers[i]));
-        Values { base: std::array::from_fn(|i| value(i, base[i])), contacts: contacts.iter().map(contact).collect() }
+        Values { base: std::array::from_fn(|i| value(i, base[i])), wind: None, contacts: contacts.iter().map(contact).collect() }
     }
 
-    fn len(&self) -> usize {
+    /// How many words there are beside the wind's.
+    pub fn len(&self) -> usize {
         BASE + EACH * self.contacts.len()
     }
 
@@ -49,7 +50,7 @@ impl Values {
         }
     }
 
-    fn with(mut self, changes: &[(usize, u32)]) -> Values {
+    pub fn with(mut self, changes: &[(usize, u32)]) -> Values {
         for (place, value) in changes {
             *self.at(*place) = *value;
         }
@@ -63,7 +64,7 @@ fn is_whole(place: usize) -> bool {
 }
 
 /// The largest accepted value at a place.
-fn largest(place: usize) -> u32 {
+pub fn largest(place: usize) -> u32 {
     match kind(place) {
         0x0 | 0xa | 0xc => CIRCLE - 1,
         0x1 | 0xd => FASTEST,
@@ -78,7 +79,7 @@ fn largest(place: usize) -> u32 {
 // ---- the systematic part
 
 /// Values that each word takes in turn; then come the largest accepted one and those next to it.
-const TURNS: [u32; 16] =
+pub const TURNS: [u32; 16] =
     [0, 1, 2, 3, 4, 5, 6, 7, 8, 63, SIXTEENTH, 3 * SIXTEENTH, 1 << 10, 90 << 10, VALUE - 1, VALUE];
 const TURNED: usize = TURNS.len() + 4;
 
@@ -87,14 +88,14 @@ fn turn(place: usize, i: usize) -> u32 {
 }
 
 /// Two contacts, so that a second group is there too.
-fn two() -> Values {
+pub fn two() -> Values {
     let mut values = sample();
     values.contacts.push([9, 90 << 10, 2 << 10, 300 << 10, 5 << 10, 4]);
     values
 }
 
 /// Geometries of one contact for all pairs of categories: bearing, range, course, speed.
-const GEOMETRIES: [[f64; 4]; 8] = [
+pub const GEOMETRIES: [[f64; 4]; 8] = [
     [0.0, 4.0, 0.0, 5.0],
     [0.0, 4.0, 180.0, 10.0],
     [45.0, 4.0, 270.0, 10.0],
@@ -159,7 +160,7 @@ fn category(one: u32, random: &mut Random) -> u32 {
 
 /// Traffic as the ruled search is compared on, in parts of 1/1024. In half of it each contact heads away from own craft, so that those
 /// that are overtaken leave both sides.
-fn ordinary(i: u64, random: &mut Random) -> Values {
+pub fn ordinary(i: u64, random: &mut Random) -> Values {
     let (own, (least, most)) = (own(random), limits(random));
     let count = any(&[how_many(random), random.below(33) as usize], random);
     let one = random.below(8) as u32;
@@ -174,7 +175,7 @@ fn ordinary(i: u64, random: &mut Random) -> Values {
     let (cpa_limit, tcpa_limit) = (value(random.unit() * 3.0), random.below(3600) as u32);
     let (course, speed, desired) = (direction(own.0), value(own.1), value(own.2));
     let base = [course, speed, category(one, random), restricted, desired, value(least), value(most), cpa_limit, tcpa_limit];
-    just_met(Values { base, contacts }, random)
+    just_met(Values { base, wind: None, contacts }, random)
 }
 
 /// Limits about what the sheet comes to: the CPA and the time of a contact, the desired distance about a CPA, most about the answer.
@@ -207,7 +208,7 @@ fn just_met(mut values: Values, random: &mut Random) -> Values {
 
 /// Symmetrical traffic about a course on a coarse grid, so that the sides tie: contacts ahead, and pairs that mirror one another, coming on
 /// or overtaken.
-fn coarse(random: &mut Random) -> Values {
+pub fn coarse(random: &mut Random) -> Values {
     let own_course = 15.0 * random.below(24) as f64;
     let mut contacts = Vec::new();
     for _ in 0..1 + random.below(6) {
@@ -267,7 +268,7 @@ fn slow(random: &mut Random) -> Values {
 }
 
 /// Each value the least, the largest or about, or any.
-fn at_limits(random: &mut Random) -> Values {
+pub fn at_limits(random: &mut Random) -> Values {
     let mut values = ordinary(0, random);
     values.contacts.truncate(4);
     for place in 0..values.len() {
@@ -286,14 +287,14 @@ fn at_limits(random: &mut Random) -> Values {
 }
 
 /// So many contacts, those there are over and over.
-fn crowded(mut values: Values, count: usize) -> Values {
+pub fn crowded(mut values: Values, count: usize) -> Values {
     let from = if values.contacts.is_empty() { sample().contacts } else { values.contacts.clone() };
     values.contacts = from.into_iter().cycle().take(count).collect();
     values
 }
 
 /// One to three values that are refused, or next to that.
-fn spoiled(mut values: Values, random: &mut Random) -> Values {
+pub fn spoiled(mut values: Values, random: &mut Random) -> Values {
     for _ in 0..1 + random.below(3) {
         let place = random.below(values.len() as u64) as usize;
         let past = largest(place).saturating_add(1);
@@ -306,7 +307,7 @@ fn spoiled(mut values: Values, random: &mut Random) -> Values {
 }
 
 /// Damages bytes: bits, bytes, words, kinds, groups, the order of bytes in words.
-fn damage(bytes: &mut Vec<u8>, random: &mut Random) {
+pub fn damage(bytes: &mut Vec<u8>, random: &mut Random) {
     let length = bytes.len() as u64;
     if length < 4 {
         return bytes.extend(random.word().to_le_bytes());

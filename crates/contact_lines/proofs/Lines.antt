@@ -18,7 +18,7 @@ use Rattle.risk.specs.declared.PerhapsCpa.{PerhapsCpa}
 use Rattle.risk.specs.Risk.{nearest, riskOf}
 use Rattle.situation.specs.declared.party.Party.{Party}
 use Rattle.situation.specs.declared.party.Visibility.{Visibility}
-use Rattle.situation.specs.declared.party.Perhaps.the-variants.{Unknown}
+use Rattle.situation.specs.declared.party.Perhaps.{Perhaps}
 use Rattle.situation.specs.Situation.{standard}
 use Rattle.colregs.specs.declared.answer.Ruling.{Ruling}
 use Rattle.colregs.specs.declared.answer.RulingAnswer.{RulingAnswer}
@@ -47,18 +47,18 @@ module _ (t u : List ℕ) (id : ℕ) (policy : CpaPolicy) (approach : CpaAnswer)
   pub approach-refused : (why : Refusal) → approach ≡ Cpa.Refused why → u ≡ appended t (refusedLine why) → u ≡ appended t (lineBy id policy approach ruling)
   approach-refused why ea e = by (Cpa.Refused why) ruling ea refl e
 
-pub of-row : (t u : List ℕ) (own : Party) (visibility : Visibility) (policy : CpaPolicy) (row : Row) (e : Entry) (approach : CpaAnswer) (ruling : RulingAnswer)
-    → e ≡ entryOf row → approach ≡ cpaAnswer (own .motion) (e .contact) (e .target .motion) → ruling ≡ rulingAnswer (situationOf own visibility Unknown e) standard
-    → u ≡ appended t (lineBy (row .id) policy approach ruling) → u ≡ appended t (lineOn own visibility policy row)
+pub of-row : (t u : List ℕ) (own : Party) (visibility : Visibility) (wind : Perhaps) (policy : CpaPolicy) (row : Row) (e : Entry) (approach : CpaAnswer) (ruling : RulingAnswer)
+    → e ≡ entryOf row → approach ≡ cpaAnswer (own .motion) (e .contact) (e .target .motion) → ruling ≡ rulingAnswer (situationOf own visibility wind e) standard
+    → u ≡ appended t (lineBy (row .id) policy approach ruling) → u ≡ appended t (lineOn own visibility wind policy row)
 unfolding lineOn
-of-row t u own visibility policy row e approach ruling ee ea eg eu =
+of-row t u own visibility wind policy row e approach ruling ee ea eg eu =
     eu ∙ ap (λ a. appended t (lineBy (row .id) policy a ruling)) ea ∙ ap (λ g. appended t (lineBy (row .id) policy (cpaAnswer (own .motion) (e .contact) (e .target .motion)) g)) eg
-    ∙ ap (λ (e : Entry). appended t (lineBy (row .id) policy (cpaAnswer (own .motion) (e .contact) (e .target .motion)) (rulingAnswer (situationOf own visibility Unknown e) standard))) ee
+    ∙ ap (λ (e : Entry). appended t (lineBy (row .id) policy (cpaAnswer (own .motion) (e .contact) (e .target .motion)) (rulingAnswer (situationOf own visibility wind e) standard))) ee
 
 -- ---- all contacts
 
-pub all-joined : (own : Party) (visibility : Visibility) (policy : CpaPolicy) (u r : List ℕ) (list : List Row) (n count : ℕ) → length u ≤ room → n ≡ min count maxContacts → length list ≡ maxContacts
-    → r ≡ fold (with-piece (lineOn own visibility policy)) u (slice 0 n list) → r ≡ appended u (contactLines own visibility policy (take count list))
+pub all-joined : (own : Party) (visibility : Visibility) (wind : Perhaps) (policy : CpaPolicy) (u r : List ℕ) (list : List Row) (n count : ℕ) → length u ≤ room → n ≡ min count maxContacts → length list ≡ maxContacts
+    → r ≡ fold (with-piece (lineOn own visibility wind policy)) u (slice 0 n list) → r ≡ appended u (contactLines own visibility wind policy (take count list))
 unfolding contactLines
-all-joined own visibility policy u r list n count h is full e =
-    e ∙ joined (lineOn own visibility policy) u (take n list) h ∙ ap (λ l. appended u (contactLines own visibility policy l)) (take-room n count maxContacts list is full)
+all-joined own visibility wind policy u r list n count h is full e =
+    e ∙ joined (lineOn own visibility wind policy) u (take n list) h ∙ ap (λ l. appended u (contactLines own visibility wind policy l)) (take-room n count maxContacts list is full)

@@ -9,7 +9,7 @@ use Rattle.relative_motion.specs.declared.approach.CpaAnswer.the-variants as Cp
 use Rattle.relative_motion.specs.Approach.{cpaAnswer}
 use Rattle.risk.specs.Risk.{nearest, riskOf}
 use Rattle.situation.specs.declared.party.Party.{Party}
-use Rattle.situation.specs.declared.party.Perhaps.the-variants.{Unknown}
+use Rattle.situation.specs.declared.party.Perhaps.{Perhaps}
 use Rattle.situation.specs.declared.party.Visibility.{Visibility}
 use Rattle.situation.specs.Situation.{standard}
 use Rattle.colregs.specs.declared.answer.RulingAnswer.{RulingAnswer}
@@ -25,12 +25,12 @@ lineBy id policy (Cpa.Of a) (Ruling.Of r) = contactLine id a (riskOf policy (nea
 lineBy id policy (Cpa.Of a) (Ruling.Refused why) = refusedLine why
 lineBy id policy (Cpa.Refused why) r = refusedLine why
 
--- a sheet does not say where the wind is from
-unfoldable pub lineOn : Party → Visibility → CpaPolicy → Row → List ℕ
-lineOn own visibility policy row =
+-- own craft, visibility and wind are the same for every contact
+unfoldable pub lineOn : Party → Visibility → Perhaps → CpaPolicy → Row → List ℕ
+lineOn own visibility wind policy row =
     let e = entryOf row in
-    lineBy (row .id) policy (cpaAnswer (own .motion) (e .contact) (e .target .motion)) (rulingAnswer (situationOf own visibility Unknown e) standard)
+    lineBy (row .id) policy (cpaAnswer (own .motion) (e .contact) (e .target .motion)) (rulingAnswer (situationOf own visibility wind e) standard)
 
 -- in the sheet's order
-unfoldable pub contactLines : Party → Visibility → CpaPolicy → List Row → List ℕ
-contactLines own visibility policy rs = flatMap (lineOn own visibility policy) rs
+unfoldable pub contactLines : Party → Visibility → Perhaps → CpaPolicy → List Row → List ℕ
+contactLines own visibility wind policy rs = flatMap (lineOn own visibility wind policy) rs

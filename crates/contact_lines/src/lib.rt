@@ -39,8 +39,15 @@ fn put_answers(
 }
 
 // The line on a contact.
-fn put_row(t: Text, own: Party, visibility: Visibility, policy: CpaPolicy, row: Row) -> Text
-    ensures { λ r. ⌜ shown r ≡ appended (shown t) (Spec.lineOn own visibility policy row) ⌝ }
+fn put_row(
+    t: Text,
+    own: Party,
+    visibility: Visibility,
+    wind: Perhaps,
+    policy: CpaPolicy,
+    row: Row,
+) -> Text
+    ensures { λ r. ⌜ shown r ≡ appended (shown t) (Spec.lineOn own visibility wind policy row) ⌝ }
 {
     let e = sheet_values::entry_of(row);
     let contact = e.contact;
@@ -54,22 +61,29 @@ fn put_row(t: Text, own: Party, visibility: Visibility, policy: CpaPolicy, row: 
         target: target,
         contact: contact,
         visibility: visibility,
-        wind_from: Perhaps::Unknown,
+        wind_from: wind,
     };
     let ruling = ruling::rule_of_the_road(s, ColregsConfig::STANDARD);
     put_answers(t, id, policy, approach, ruling)
 }
 
 // The lines on all contacts, in their order.
-pub fn put_rows(t0: Text, own: Party, visibility: Visibility, policy: CpaPolicy, rows: Rows) -> Text
-    ensures { λ r. ⌜ shown r ≡ appended (shown t0) (Spec.contactLines own visibility policy (Record.rows rows)) ⌝ }
+pub fn put_rows(
+    t0: Text,
+    own: Party,
+    visibility: Visibility,
+    wind: Perhaps,
+    policy: CpaPolicy,
+    rows: Rows,
+) -> Text
+    ensures { λ r. ⌜ shown r ≡ appended (shown t0) (Spec.contactLines own visibility wind policy (Record.rows rows)) ⌝ }
 {
     let count = room::held(rows.count);
     let mut t = t0;
     let mut i: usize = 0;
     while i < count {
         let row = rows.list[i];
-        t = put_row(t, own, visibility, policy, row);
+        t = put_row(t, own, visibility, wind, policy, row);
         i += 1;
     }
     t

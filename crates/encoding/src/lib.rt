@@ -7,6 +7,7 @@ ghost use Rattle.encoding.specs.Encode as Spec;
 use sheet_record::Header;
 use sheet_record::Row;
 use sheet_record::Rows;
+use sheet_record::Wind;
 use text::Text;
 
 // A word of a kind and a value, as four bytes.
@@ -24,6 +25,15 @@ fn put_word(t: Text, kind: u32, value: u32) -> Text
     t.put(&bytes)
 }
 
+fn put_wind(t: Text, wind: Wind) -> Text
+    ensures { λ r. ⌜ shown r ≡ appended (shown t) (Spec.bytesOf (Spec.windWords wind)) ⌝ }
+{
+    match wind {
+        Wind::Unknown => t,
+        Wind::From(n) => put_word(t, 15, n),
+    }
+}
+
 fn put_header(t: Text, h: Header) -> Text
     ensures { λ r. ⌜ shown r ≡ appended (shown t) (Spec.bytesOf (Spec.headerWords h)) ⌝ }
 {
@@ -37,11 +47,13 @@ fn put_header(t: Text, h: Header) -> Text
         5,
         h.least,
     );
-    put_word(
+    let t = put_word(
         put_word(put_word(t, 6, h.most), 7, h.cpa_limit),
         8,
         h.tcpa_limit,
-    )
+    );
+    let wind = h.wind;
+    put_wind(t, wind)
 }
 
 fn put_row(t: Text, row: Row) -> Text

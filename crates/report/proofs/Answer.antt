@@ -5,7 +5,7 @@ use Prim.Native.Nat.{ℕ}
 use lib.ListN.{length}
 use lib.Ieee.{Float}
 use Rattle.situation.specs.declared.party.Party.{Party}
-use Rattle.situation.specs.declared.party.Perhaps.the-variants.{Unknown}
+use Rattle.situation.specs.declared.party.Perhaps.{Perhaps}
 use Rattle.situation.specs.declared.party.Visibility.{Visibility}
 use Rattle.constraints.specs.declared.ManoeuvreConstraints.{ManoeuvreConstraints}
 use Rattle.traffic.specs.declared.Entry.{Entry}
@@ -13,11 +13,11 @@ use Rattle.rulings.specs.declared.RuledAnswer.{RuledAnswer}
 use Rattle.rulings.specs.Ruled.{ruledAnswer}
 use Rattle.sheet_record.specs.declared.Header.{Header}
 use Rattle.sheet_record.specs.declared.Row.{Row}
-use Rattle.sheet_values.specs.Values.{scaled, visibilityOf, ownOf, entryOf}
+use Rattle.sheet_values.specs.Values.{scaled, visibilityOf, ownOf, windFrom, entryOf}
 use Rattle.report.specs.Report.{answerOn}
 
-pub answered : (h : Header) (rs : List Row) (c : ManoeuvreConstraints) (own : Party) (n count : ℕ) (es : List Entry) (visibility : Visibility) (x : Float) {r : RuledAnswer}
-    → own ≡ ownOf h → n ≡ count → count ≡ length rs → es ≡ map entryOf rs → visibility ≡ visibilityOf (h .visibility) → x ≡ scaled (h .desired)
-    → r ≡ ruledAnswer own n es visibility Unknown (record { 0 = x }) c → r ≡ answerOn h rs c
+pub answered : (h : Header) (rs : List Row) (c : ManoeuvreConstraints) (own : Party) (n count : ℕ) (es : List Entry) (visibility : Visibility) (wind : Perhaps) (x : Float) {r : RuledAnswer}
+    → own ≡ ownOf h → n ≡ count → count ≡ length rs → es ≡ map entryOf rs → visibility ≡ visibilityOf (h .visibility) → wind ≡ windFrom h → x ≡ scaled (h .desired)
+    → r ≡ ruledAnswer own n es visibility wind (record { 0 = x }) c → r ≡ answerOn h rs c
 unfolding answerOn
-answered h rs c own n count es visibility x eo en ec ee ev ex er = rw (er, eo, en, ec, ee, ev, ex) refl
+answered h rs c own n count es visibility wind x eo en ec ee ev ew ex er = rw (er, eo, en, ec, ee, ev, ew, ex) refl

@@ -14,7 +14,7 @@ use Rattle.relative_motion.specs.Approach.{cpaAnswer}
 use Rattle.policy.specs.declared.CpaPolicy.{CpaPolicy}
 use Rattle.risk.specs.Risk.{nearest, riskOf}
 use Rattle.situation.specs.declared.party.Party.{Party}
-use Rattle.situation.specs.declared.party.Perhaps.the-variants.{Unknown}
+use Rattle.situation.specs.declared.party.Perhaps.{Perhaps}
 use Rattle.situation.specs.declared.party.Visibility.{Visibility}
 use Rattle.situation.specs.Situation.{standard}
 use Rattle.colregs.specs.declared.answer.RulingAnswer.{RulingAnswer}
@@ -40,21 +40,21 @@ pub answer-short : (rs : List Row) (a : RuledAnswer) → length (answerLine rs a
 answer-short rs (Ruled.Of m) = alter-short m (idAt rs (m .limiting))
 answer-short rs (Ruled.Refused why) = omega (arith, refused-short why)
 
-module _ (own : Party) (visibility : Visibility) (policy : CpaPolicy) where
-  line-short : (r : Row) → length (lineOn own visibility policy r) ≤ 129
+module _ (own : Party) (visibility : Visibility) (wind : Perhaps) (policy : CpaPolicy) where
+  line-short : (r : Row) → length (lineOn own visibility wind policy r) ≤ 129
   unfolding lineOn
   line-short r =
       let e = entryOf r in
-      by-short (r .id) policy (cpaAnswer (own .motion) (e .contact) (e .target .motion)) (rulingAnswer (situationOf own visibility Unknown e) standard)
+      by-short (r .id) policy (cpaAnswer (own .motion) (e .contact) (e .target .motion)) (rulingAnswer (situationOf own visibility wind e) standard)
 
-  pub contacts-short : (rs : List Row) → length (contactLines own visibility policy rs) ≤ 129 * length rs
+  pub contacts-short : (rs : List Row) → length (contactLines own visibility wind policy rs) ≤ 129 * length rs
   unfolding contactLines flatMap
   contacts-short [] = lit≤ tt
-  contacts-short (r ∷ rs) = omega (arith, length-append (lineOn own visibility policy r) (contactLines own visibility policy rs), line-short r, contacts-short rs)
+  contacts-short (r ∷ rs) = omega (arith, length-append (lineOn own visibility wind policy r) (contactLines own visibility wind policy rs), line-short r, contacts-short rs)
 
-  pub both : (rs : List Row) (a : RuledAnswer) (t u : List ℕ) → length rs ≤ maxContacts → t ≡ appended [] (contactLines own visibility policy rs) → u ≡ appended t (answerLine rs a) → u ≡ contactLines own visibility policy rs ++ answerLine rs a
+  pub both : (rs : List Row) (a : RuledAnswer) (t u : List ℕ) → length rs ≤ maxContacts → t ≡ appended [] (contactLines own visibility wind policy rs) → u ≡ appended t (answerLine rs a) → u ≡ contactLines own visibility wind policy rs ++ answerLine rs a
   both rs a t u h et eu =
-      let lines = contactLines own visibility policy rs in
+      let lines = contactLines own visibility wind policy rs in
       eu ∙ ap (λ t. appended t (answerLine rs a)) et ∙ appended-twice [] lines (answerLine rs a)
       ∙ whole [] (lines ++ answerLine rs a) (omega (arith, length-append lines (answerLine rs a), contacts-short rs, answer-short rs a, h))
 

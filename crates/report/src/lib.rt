@@ -16,7 +16,6 @@ use sheet_limits::policy_on;
 use sheet_record::Header;
 use sheet_record::Rows;
 use sheet_values::scaled;
-use situation::party::Perhaps;
 use text::Text;
 
 // The line on the ruled search's answer.
@@ -32,7 +31,7 @@ fn put_answer(t: Text, rows: Rows, answer: RuledAnswer) -> Text
     }
 }
 
-// The ruled search on a sheet, which does not say where the wind is from.
+// The ruled search on a sheet.
 fn answer_on(h: Header, rows: Rows, c: ManoeuvreConstraints) -> RuledAnswer
     requires { ⌜ rows .count ≡ length (Record.rows rows) ⌝ }
     ensures { λ r. ⌜ r ≡ Spec.answerOn h (Record.rows rows) c ⌝ }
@@ -40,8 +39,9 @@ fn answer_on(h: Header, rows: Rows, c: ManoeuvreConstraints) -> RuledAnswer
     let own = sheet_values::own_of(h);
     let t = sheet_values::traffic_of(rows);
     let visibility = sheet_values::visibility_of(h.visibility);
+    let wind = sheet_values::wind_from(h);
     let desired = Distance(scaled(h.desired));
-    ruled::ruled_search(own, t, visibility, Perhaps::Unknown, desired, c)
+    ruled::ruled_search(own, t, visibility, wind, desired, c)
 }
 
 // The lines on a sheet that is accepted.
@@ -54,7 +54,8 @@ fn lines_on(h: Header, rows: Rows) -> Text
             ConstraintsAnswer::Of(c) => {
                 let own = sheet_values::own_of(h);
                 let visibility = sheet_values::visibility_of(h.visibility);
-                let t = contact_lines::put_rows(Text::blank(), own, visibility, p, rows);
+                let wind = sheet_values::wind_from(h);
+                let t = contact_lines::put_rows(Text::blank(), own, visibility, wind, p, rows);
                 put_answer(t, rows, answer_on(h, rows, c))
             }
             ConstraintsAnswer::Refused(why) => lines::refused_line(Text::blank(), why),

@@ -12,7 +12,6 @@ use Rattle.arguments.specs.declared.Verdict.{Verdict}
 use Rattle.arguments.specs.declared.Verdict.the-variants as Verdict
 use Rattle.arguments.specs.Check.{Check, verdict, vesselChecks, contactChecks, distanceChecks, encounterChecks}
 use Rattle.situation.specs.declared.party.Party.{Party}
-use Rattle.situation.specs.declared.party.Perhaps.the-variants.{Unknown}
 use Rattle.situation.specs.Arguments.{perhapsChecks, partyChecks}
 use Rattle.constraints.specs.Constraints.{alterationChecks, rateChecks, constraintChecks}
 use Rattle.room.specs.Room.{maxContacts}
@@ -29,7 +28,7 @@ use Rattle.sheet_record.specs.declared.Readable.{Readable}
 use Rattle.sheet_record.specs.declared.Readable.the-variants as Readable
 use Rattle.sheet_record.specs.Record.{headerOf, rowsOf, readable}
 use Rattle.sheet_record.proofs.Filling.{few-rows}
-use Rattle.sheet_values.specs.Values.{scaled, ownOf, partyOf, entryOf}
+use Rattle.sheet_values.specs.Values.{scaled, ownOf, partyOf, windFrom, entryOf}
 use Rattle.sheet.specs.Sheet.{codeChecks, limitChecks, valueChecks, byLayout, sheetVerdict}
 use Rattle.report_laws.specs.Plain.{policy, constraints, desired}
 
@@ -58,7 +57,7 @@ module _ (s : List ℕ) (ok : sheetVerdict s ≡ Verdict.Accepted) where
 
   -- the checks from the desired distance on, from the alterations on, from the limits on
   abbrev from-limits : List Check
-  from-limits = limitChecks h ++ contactsChecks es
+  from-limits = limitChecks h ++ (perhapsChecks (windFrom h) ++ contactsChecks es)
 
   abbrev alterations : List Check
   alterations = alterationChecks (record { 0 = scaled (h .least) }) (record { 0 = scaled (h .most) })
@@ -87,10 +86,16 @@ module _ (s : List ℕ) (ok : sheetVerdict s ≡ Verdict.Accepted) where
   after-alterations = good-back alterations from-limits after-desired
 
   pub limits-good : AllGood (limitChecks h)
-  limits-good = good-front (limitChecks h) (contactsChecks es) after-alterations
+  limits-good = good-front (limitChecks h) (perhapsChecks (windFrom h) ++ contactsChecks es) after-alterations
+
+  after-limits : AllGood (perhapsChecks (windFrom h) ++ contactsChecks es)
+  after-limits = good-back (limitChecks h) (perhapsChecks (windFrom h) ++ contactsChecks es) after-alterations
+
+  wind-good : AllGood (perhapsChecks (windFrom h))
+  wind-good = good-front (perhapsChecks (windFrom h)) (contactsChecks es) after-limits
 
   contacts-good : AllGood (contactsChecks es)
-  contacts-good = good-back (limitChecks h) (contactsChecks es) after-alterations
+  contacts-good = good-back (perhapsChecks (windFrom h)) (contactsChecks es) after-limits
 
   -- a party without a heading is her motion
   party-good : AllGood (partyChecks (ownOf h))
@@ -102,11 +107,12 @@ module _ (s : List ℕ) (ok : sheetVerdict s ≡ Verdict.Accepted) where
   constraints-good = good-both alterations [] alterations-good tt
 
   -- so the ruled search accepts its arguments
-  pub ruled-good : AllGood (ruledChecks (ownOf h) (length rs) es Unknown (desired h) (constraints h))
+  pub ruled-good : AllGood (ruledChecks (ownOf h) (length rs) es (windFrom h) (desired h) (constraints h))
   unfolding ruledChecks
-  ruled-good = (
-    le→leb (length rs) maxContacts (few-rows (words s)),
-    good-both (partyChecks (ownOf h)) (contactsChecks es ++ (distanceChecks (desired h) ++ constraintChecks (constraints h))) party-good
-        (good-both (contactsChecks es) (distanceChecks (desired h) ++ constraintChecks (constraints h)) contacts-good
-        (good-both (distanceChecks (desired h)) (constraintChecks (constraints h)) desired-good constraints-good)),
-  )
+  ruled-good =
+      let turn = distanceChecks (desired h) ++ constraintChecks (constraints h) in
+      let winds = perhapsChecks (windFrom h) in (
+        le→leb (length rs) maxContacts (few-rows (words s)),
+        good-both (partyChecks (ownOf h)) (contactsChecks es ++ (winds ++ turn)) party-good
+            (good-both (contactsChecks es) (winds ++ turn) contacts-good (good-both winds turn wind-good (good-both (distanceChecks (desired h)) (constraintChecks (constraints h)) desired-good constraints-good))),
+      )

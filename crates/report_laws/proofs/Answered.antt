@@ -18,7 +18,7 @@ use Rattle.sheet_words.specs.Word.{words}
 use Rattle.sheet_record.specs.declared.Header.{Header}
 use Rattle.sheet_record.specs.declared.Row.{Row}
 use Rattle.sheet_record.specs.Record.{headerOf, rowsOf}
-use Rattle.sheet_values.specs.Values.{visibilityOf, ownOf}
+use Rattle.sheet_values.specs.Values.{visibilityOf, ownOf, windFrom}
 use Rattle.sheet.specs.Sheet.{sheetVerdict}
 use Rattle.contact_lines.specs.Contacts.{contactLines}
 use Rattle.room.specs.Room.{maxContacts}
@@ -38,7 +38,7 @@ answer-some rs (Ruled.Refused why) = refused-some why
 
 lines-some : (h : Header) (rs : List Row) (p : PolicyAnswer) (c : ConstraintsAnswer) → 0 < length (linesBy h rs p c)
 lines-some h rs (Policy.Of p) (Constraints.Of c) =
-    let contacts = contactLines (ownOf h) (visibilityOf (h .visibility)) p rs in
+    let contacts = contactLines (ownOf h) (visibilityOf (h .visibility)) (windFrom h) p rs in
     omega (arith, length-append contacts (answerLine rs (answerOn h rs c)), answer-some rs (answerOn h rs c))
 lines-some h rs (Policy.Of p) (Constraints.Refused why) = refused-some why
 lines-some h rs (Policy.Refused why) c = refused-some why
@@ -57,8 +57,8 @@ some-bytes s =
 -- ---- at most
 lines-short : (h : Header) (rs : List Row) (p : PolicyAnswer) (c : ConstraintsAnswer) → length rs ≤ maxContacts → length (linesBy h rs p c) ≤ 4232
 lines-short h rs (Policy.Of p) (Constraints.Of c) few =
-    let contacts = contactLines (ownOf h) (visibilityOf (h .visibility)) p rs in
-    omega (arith, length-append contacts (answerLine rs (answerOn h rs c)), contacts-short (ownOf h) (visibilityOf (h .visibility)) p rs, answer-short rs (answerOn h rs c), few)
+    let contacts = contactLines (ownOf h) (visibilityOf (h .visibility)) (windFrom h) p rs in
+    omega (arith, length-append contacts (answerLine rs (answerOn h rs c)), contacts-short (ownOf h) (visibilityOf (h .visibility)) (windFrom h) p rs, answer-short rs (answerOn h rs c), few)
 lines-short h rs (Policy.Of p) (Constraints.Refused why) few = omega (arith, refused-short why)
 lines-short h rs (Policy.Refused why) c few = omega (arith, refused-short why)
 

@@ -22,12 +22,12 @@ use Rattle.relative_motion.specs.Approach.{approach, cpaBy, cpaAnswer}
 use Rattle.policy.specs.declared.PolicyAnswer.the-variants as Policy
 use Rattle.policy.specs.Policy.{policyChecks, policyBy, policyAnswer}
 use Rattle.situation.specs.declared.party.Visibility.{Visibility}
-use Rattle.situation.specs.declared.party.Perhaps.the-variants.{Unknown}
 use Rattle.situation.specs.Situation.{standard}
 use Rattle.situation.specs.Arguments.{partyChecks}
 use Rattle.facts.specs.Facts.{factsOf}
 use Rattle.colregs.specs.declared.answer.RulingAnswer.the-variants as RulingAnswer
 use Rattle.colregs.specs.Colregs.{rulingOf, rulingAnswer}
+use Rattle.ruling_laws.proofs.Settled.{settled}
 use Rattle.constraints.specs.declared.ConstraintsAnswer.the-variants as Constraints
 use Rattle.constraints.specs.declared.PermittedSides.the-variants.{Either}
 use Rattle.constraints.specs.declared.ManoeuvreConstraints.{ManoeuvreConstraints}
@@ -52,12 +52,12 @@ use Rattle.sheet_words.specs.Word.{words}
 use Rattle.sheet_record.specs.declared.Header.{Header}
 use Rattle.sheet_record.specs.declared.Row.{Row}
 use Rattle.sheet_record.specs.Record.{headerOf, rowsOf}
-use Rattle.sheet_values.specs.Values.{scaled, visibilityOf, vesselOf, partyOf, ownOf, entryOf}
+use Rattle.sheet_values.specs.Values.{scaled, visibilityOf, vesselOf, partyOf, ownOf, windFrom, entryOf}
 use Rattle.sheet.specs.Sheet.{limitChecks, sheetVerdict}
 use Rattle.lines.specs.Lines.{contactLine}
 use Rattle.contact_lines.specs.Contacts.{lineBy, lineOn, contactLines}
 use Rattle.report.specs.Report.{answerOn, answerLine, policyOn, constraintsOn, linesBy, linesOn, byVerdict, report}
-use Rattle.report_laws.specs.Plain.{policy, constraints, desired, plainLine, plainAnswer, Reported, AsReported}
+use Rattle.report_laws.specs.Plain.{policy, constraints, desired, situationOn, plainLine, plainAnswer, Reported, AsReported}
 use Rattle.report_laws.proofs.Accepted.{alterations-good, limits-good, ruled-good}
 
 -- ---- a sheet's numbers are f64s
@@ -121,8 +121,8 @@ module _ (s : List ℕ) (ok : sheetVerdict s ≡ Verdict.Accepted) where
   abbrev visibility : Visibility
   visibility = visibilityOf (h .visibility)
 
-  search-accepted : verdict (ruledChecks (ownOf h) (length rs) (map entryOf rs) Unknown (desired h) (constraints h)) Verdict.Accepted ≡ Verdict.Accepted
-  search-accepted = accepted (ruledChecks (ownOf h) (length rs) (map entryOf rs) Unknown (desired h) (constraints h)) (ruled-good s ok)
+  search-accepted : verdict (ruledChecks (ownOf h) (length rs) (map entryOf rs) (windFrom h) (desired h) (constraints h)) Verdict.Accepted ≡ Verdict.Accepted
+  search-accepted = accepted (ruledChecks (ownOf h) (length rs) (map entryOf rs) (windFrom h) (desired h) (constraints h)) (ruled-good s ok)
 
   -- ---- one contact
   module _ (r : Row) (m : List·Memᴰ r rs) where
@@ -135,40 +135,40 @@ module _ (s : List ℕ) (ok : sheetVerdict s ≡ Verdict.Accepted) where
     approaches : cpaAnswer (ownOf h .motion) (e .contact) (e .target .motion) ≡ Cpa.Of (approach (ownOf h .motion) (e .contact) (e .target .motion))
     unfolding cpaAnswer encounterChecks
     approaches =
-        let g = Ruling.each-good (ownOf h) (length rs) (map entryOf rs) Unknown (desired h) (constraints h) search-accepted e in-traffic in
+        let g = Ruling.each-good (ownOf h) (length rs) (map entryOf rs) (windFrom h) (desired h) (constraints h) search-accepted e in-traffic in
         ap (λ v. cpaBy v (approach (ownOf h .motion) (e .contact) (e .target .motion)))
         (accepted (encounterChecks (ownOf h .motion) (e .contact) (e .target .motion))
-        (good-both (vesselChecks (ownOf h .motion)) (contactChecks (e .contact) ++ vesselChecks (e .target .motion)) (Ruling.party-vessel (ownOf h) (Ruling.own-good (ownOf h) (length rs) (map entryOf rs) Unknown (desired h) (constraints h) search-accepted))
+        (good-both (vesselChecks (ownOf h .motion)) (contactChecks (e .contact) ++ vesselChecks (e .target .motion)) (Ruling.party-vessel (ownOf h) (Ruling.own-good (ownOf h) (length rs) (map entryOf rs) (windFrom h) (desired h) (constraints h) search-accepted))
         (good-both (contactChecks (e .contact)) (vesselChecks (e .target .motion)) (g .0) (Ruling.party-vessel (e .target) (g .1)))))
 
-    rules : rulingAnswer (situationOf (ownOf h) visibility Unknown e) standard ≡ RulingAnswer.Of (rulingOf standard (factsOf (situationOf (ownOf h) visibility Unknown e)))
-    rules = Ruling.ruled (ownOf h) (length rs) (map entryOf rs) Unknown (desired h) (constraints h) search-accepted visibility e in-traffic
+    rules : rulingAnswer (situationOf (ownOf h) visibility (windFrom h) e) standard ≡ RulingAnswer.Of (rulingOf standard (factsOf (situationOf (ownOf h) visibility (windFrom h) e)))
+    rules = Ruling.ruled (ownOf h) (length rs) (map entryOf rs) (windFrom h) (desired h) (constraints h) search-accepted visibility e in-traffic
 
-    same-line : lineOn (ownOf h) visibility (policy h) r ≡ plainLine h r
+    same-line : lineOn (ownOf h) visibility (windFrom h) (policy h) r ≡ plainLine h r
     unfolding lineOn plainLine
     same-line =
-        ap (λ a. lineBy (r .id) (policy h) a (rulingAnswer (situationOf (ownOf h) visibility Unknown e) standard)) approaches
+        ap (λ a. lineBy (r .id) (policy h) a (rulingAnswer (situationOf (ownOf h) visibility (windFrom h) e) standard)) approaches
         ∙ ap (λ g. lineBy (r .id) (policy h) (Cpa.Of (approach (ownOf h .motion) (e .contact) (e .target .motion))) g) rules
 
-  all-lines : contactLines (ownOf h) visibility (policy h) rs ≡ flatMap (plainLine h) rs
+  all-lines : contactLines (ownOf h) visibility (windFrom h) (policy h) rs ≡ flatMap (plainLine h) rs
   unfolding contactLines
-  all-lines = same-lines (lineOn (ownOf h) visibility (policy h)) (plainLine h) rs same-line
+  all-lines = same-lines (lineOn (ownOf h) visibility (windFrom h) (policy h)) (plainLine h) rs same-line
 
   -- ---- the answer
   same-answer : answerOn h rs (constraints h) ≡ plainAnswer h rs
   unfolding answerOn ruledAnswer
   same-answer = ap (λ v. ruledBy v (plainAnswer h rs)) search-accepted
 
-  demand : OnAccepted (ownOf h) (map entryOf rs) visibility Unknown (desired h) (constraints h) (plainAnswer h rs)
+  demand : OnAccepted (ownOf h) (map entryOf rs) visibility (windFrom h) (desired h) (constraints h) (plainAnswer h rs)
   unfolding ruledAnswer
   demand =
-      subst (OnAccepted (ownOf h) (map entryOf rs) visibility Unknown (desired h) (constraints h)) (ap (λ v. ruledBy v (plainAnswer h rs)) search-accepted)
-      (demanded (ownOf h) (length rs) (map entryOf rs) visibility Unknown (desired h) (constraints h) (held h rs) .accepted search-accepted)
+      subst (OnAccepted (ownOf h) (map entryOf rs) visibility (windFrom h) (desired h) (constraints h)) (ap (λ v. ruledBy v (plainAnswer h rs)) search-accepted)
+      (demanded (ownOf h) (length rs) (map entryOf rs) visibility (windFrom h) (desired h) (constraints h) (held h rs) .accepted search-accepted)
 
   refusals : (why : Refusal) → plainAnswer h rs ≡ Ruled.Refused why → (why ≡ Why.NoTrialClears) ⊎ (why ≡ Why.NoSharedSide)
   unfolding ruled
   refusals why q =
-      let sides = sharedSides (ownOf h) visibility Unknown (map entryOf rs) in
+      let sides = sharedSides (ownOf h) visibility (windFrom h) (map entryOf rs) in
       subst Expected q (answered-expected (ownOf h .motion) (constraints h) sides (choiceFor (ownOf h .motion) (map targetOf (map entryOf rs)) (desired h) sides (scaled (h .least)) (scaled (h .most))))
 
   -- ---- the limits
@@ -187,4 +187,4 @@ module _ (s : List ℕ) (ok : sheetVerdict s ≡ Verdict.Accepted) where
       ∙ ap (λ l. l ++ answerLine rs (answerOn h rs (constraints h))) all-lines ∙ ap (λ a. flatMap (plainLine h) rs ++ answerLine rs a) same-answer
 
   pub reported : AsReported s
-  reported = record { lines = same-report; demand = demand; refusals = refusals }
+  reported = record { lines = same-report; demand = demand; settled = λ r. settled standard (situationOn h r); refusals = refusals }

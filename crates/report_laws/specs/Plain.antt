@@ -10,10 +10,11 @@ use Rattle.motion.specs.declared.units.Distance.{Distance}
 use Rattle.policy.specs.declared.CpaPolicy.{CpaPolicy}
 use Rattle.relative_motion.specs.Approach.{approach}
 use Rattle.risk.specs.Risk.{nearest, riskOf}
-use Rattle.situation.specs.declared.party.Perhaps.the-variants.{Unknown}
+use Rattle.situation.specs.declared.party.Situation.{Situation}
 use Rattle.situation.specs.Situation.{standard}
 use Rattle.facts.specs.Facts.{factsOf}
 use Rattle.colregs.specs.Colregs.{rulingOf}
+use Rattle.ruling_laws.specs.Settled.{Settled}
 use Rattle.constraints.specs.declared.ManoeuvreConstraints.{ManoeuvreConstraints}
 use Rattle.constraints.specs.declared.PermittedSides.the-variants.{Either}
 use Rattle.constraints.specs.declared.PerhapsRate.the-variants as Rate
@@ -25,7 +26,7 @@ use Rattle.sheet_words.specs.Word.{words}
 use Rattle.sheet_record.specs.declared.Header.{Header}
 use Rattle.sheet_record.specs.declared.Row.{Row}
 use Rattle.sheet_record.specs.Record.{headerOf, rowsOf}
-use Rattle.sheet_values.specs.Values.{scaled, visibilityOf, ownOf, entryOf}
+use Rattle.sheet_values.specs.Values.{scaled, visibilityOf, ownOf, windFrom, entryOf}
 use Rattle.lines.specs.Lines.{contactLine}
 use Rattle.report.specs.Report.{answerLine, report}
 
@@ -40,22 +41,27 @@ module _ (h : Header) where
   abbrev pub desired : Distance
   desired = record { 0 = scaled (h .desired) }
 
+  -- the situation that a contact makes
+  abbrev pub situationOn : Row → Situation
+  situationOn row = situationOf (ownOf h) (visibilityOf (h .visibility)) (windFrom h) (entryOf row)
+
   -- a contact: how it approaches, the risk, the ruling
   unfoldable pub plainLine : Row → List ℕ
   plainLine row =
       let own = ownOf h in
       let e = entryOf row in
       let a = approach (own .motion) (e .contact) (e .target .motion) in
-      contactLine (row .id) a (riskOf policy (nearest a)) (rulingOf standard (factsOf (situationOf own (visibilityOf (h .visibility)) Unknown e)))
+      contactLine (row .id) a (riskOf policy (nearest a)) (rulingOf standard (factsOf (situationOn row)))
 
   -- the ruled search's answer
   abbrev pub plainAnswer : List Row → RuledAnswer
-  plainAnswer rs = ruled (ownOf h) (map entryOf rs) (visibilityOf (h .visibility)) Unknown desired constraints
+  plainAnswer rs = ruled (ownOf h) (map entryOf rs) (visibilityOf (h .visibility)) (windFrom h) desired constraints
 
--- a line for each contact, in the sheet's order, then the ruled search's answer, which meets demand 3 and refuses with 5 or 13 only
+-- a line for each contact, in the sheet's order, then the ruled search's answer, which meets demand 3 and refuses with 5 or 13 only; with the wind, no contact on a known tack is left undetermined for own craft on one (R-1)
 pub record Reported (s : List ℕ) (h : Header) (rs : List Row) : Type 0 where
   pub lines : report s ≡ flatMap (plainLine h) rs ++ answerLine rs (plainAnswer h rs)
-  pub demand : OnAccepted (ownOf h) (map entryOf rs) (visibilityOf (h .visibility)) Unknown (desired h) (constraints h) (plainAnswer h rs)
+  pub demand : OnAccepted (ownOf h) (map entryOf rs) (visibilityOf (h .visibility)) (windFrom h) (desired h) (constraints h) (plainAnswer h rs)
+  pub settled : (r : Row) → Settled standard (situationOn h r)
   pub refusals : (why : Refusal) → plainAnswer h rs ≡ Ruled.Refused why → (why ≡ Why.NoTrialClears) ⊎ (why ≡ Why.NoSharedSide)
 
 abbrev pub AsReported : List ℕ → Type 0

@@ -2,3 +2,4 @@
 pub mod Departures
 pub mod Reliable
 pub mod Rows
+pub mod Settled

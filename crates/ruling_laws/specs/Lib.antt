@@ -1,2 +1,3 @@
 -- What is proved of rulings.
 pub mod Log
+pub mod Settled

@@ -17,6 +17,8 @@ use Rattle.arguments.specs.declared.Verdict.the-variants as Verdict
 use Rattle.arguments.specs.Check.{verdict, isDistance, vesselChecks, distanceChecks}
 use Rattle.arguments.proofs.Checks.{verdict-joined}
 use Rattle.situation.specs.declared.party.Party.{Party}
+use Rattle.situation.specs.declared.party.Perhaps.{Perhaps}
+use Rattle.situation.specs.Arguments.{perhapsChecks}
 use Rattle.constraints.specs.Constraints.{alterationChecks}
 use Rattle.room.proofs.Counts.{take-held}
 use Rattle.traffic.specs.declared.Entry.{Entry}
@@ -27,7 +29,7 @@ use Rattle.sheet_record.specs.declared.Row.{Row}
 use Rattle.sheet_record.specs.declared.Readable.{Readable}
 use Rattle.sheet_record.specs.declared.Readable.the-variants as Readable
 use Rattle.sheet_record.specs.Record.{headerOf, rowsOf, readable}
-use Rattle.sheet_values.specs.Values.{scaled, ownOf, entryOf}
+use Rattle.sheet_values.specs.Values.{scaled, ownOf, windFrom, entryOf}
 use Rattle.sheet.specs.Sheet.{categoryChecks, codeChecks, limitChecks, valueChecks, byLayout, sheetVerdict}
 
 -- ---- the categories of the contacts
@@ -64,18 +66,21 @@ pub limits : (h : Header) (rest a b : Verdict) (x : Float) (d t : Bool) → x �
 unfolding verdict
 limits h rest a b x d t ex ed et ea eb = eb ∙ ap (λ d. cond d a (Verdict.Refused Why.Distance)) (ed ∙ ap (λ x. isDistance (record { 0 = x })) ex) ∙ ap (λ a. cond (isDistance (record { 0 = scaled (h .«cpa_limit») })) a (Verdict.Refused Why.Distance)) (ea ∙ ap (λ t. cond t rest (Verdict.Refused Why.Time)) et)
 
-pub values : (h : Header) (es : List Entry) (rest v1 v2 v3 v4 v5 : Verdict) (own : Party) (x y z : Float) → own ≡ ownOf h → x ≡ scaled (h .least) → y ≡ scaled (h .most) → z ≡ scaled (h .desired)
-    → v1 ≡ verdict (contactsChecks es) rest → v2 ≡ verdict (limitChecks h) v1 → v3 ≡ verdict (alterationChecks (record { 0 = x }) (record { 0 = y })) v2 → v4 ≡ verdict (distanceChecks (record { 0 = z })) v3 → v5 ≡ verdict (vesselChecks (own .motion)) v4
-    → v5 ≡ verdict (valueChecks h es) rest
+pub values : (h : Header) (es : List Entry) (rest v1 v2 v3 v4 v5 v6 : Verdict) (own : Party) (wind : Perhaps) (x y z : Float) → own ≡ ownOf h → wind ≡ windFrom h → x ≡ scaled (h .least) → y ≡ scaled (h .most) → z ≡ scaled (h .desired)
+    → v1 ≡ verdict (contactsChecks es) rest → v2 ≡ verdict (perhapsChecks wind) v1 → v3 ≡ verdict (limitChecks h) v2 → v4 ≡ verdict (alterationChecks (record { 0 = x }) (record { 0 = y })) v3 → v5 ≡ verdict (distanceChecks (record { 0 = z })) v4 → v6 ≡ verdict (vesselChecks (own .motion)) v5
+    → v6 ≡ verdict (valueChecks h es) rest
 unfolding valueChecks
-values h es rest v1 v2 v3 v4 v5 own x y z eo ex ey ez e1 e2 e3 e4 e5 =
-    e5 ∙ ap (λ o. verdict (vesselChecks (o .motion)) v4) eo
-    ∙ ap (verdict (vesselChecks (ownOf h .motion))) (e4 ∙ ap (λ z. verdict (distanceChecks (record { 0 = z })) v3) ez
-    ∙ ap (verdict (distanceChecks (record { 0 = scaled (h .desired) }))) (e3 ∙ ap (λ x. verdict (alterationChecks (record { 0 = x }) (record { 0 = y })) v2) ex ∙ ap (λ y. verdict (alterationChecks (record { 0 = scaled (h .least) }) (record { 0 = y })) v2) ey
-    ∙ ap (verdict (alterationChecks (record { 0 = scaled (h .least) }) (record { 0 = scaled (h .most) }))) (e2 ∙ ap (verdict (limitChecks h)) e1 ∙ sym (verdict-joined (limitChecks h) (contactsChecks es) rest))
-    ∙ sym (verdict-joined (alterationChecks (record { 0 = scaled (h .least) }) (record { 0 = scaled (h .most) })) (limitChecks h ++ contactsChecks es) rest))
-    ∙ sym (verdict-joined (distanceChecks (record { 0 = scaled (h .desired) })) (alterationChecks (record { 0 = scaled (h .least) }) (record { 0 = scaled (h .most) }) ++ (limitChecks h ++ contactsChecks es)) rest))
-    ∙ sym (verdict-joined (vesselChecks (ownOf h .motion)) (distanceChecks (record { 0 = scaled (h .desired) }) ++ (alterationChecks (record { 0 = scaled (h .least) }) (record { 0 = scaled (h .most) }) ++ (limitChecks h ++ contactsChecks es))) rest)
+values h es rest v1 v2 v3 v4 v5 v6 own wind x y z eo ew ex ey ez e1 e2 e3 e4 e5 e6 =
+    let own-checks = vesselChecks (ownOf h .motion) in
+    let desired = distanceChecks (record { 0 = scaled (h .desired) }) in
+    let alterations = alterationChecks (record { 0 = scaled (h .least) }) (record { 0 = scaled (h .most) }) in
+    let winds = perhapsChecks (windFrom h) in
+    let from-wind = e2 ∙ ap (λ w. verdict (perhapsChecks w) v1) ew ∙ ap (verdict winds) e1 ∙ sym (verdict-joined winds (contactsChecks es) rest) in
+    let from-limits = e3 ∙ ap (verdict (limitChecks h)) from-wind ∙ sym (verdict-joined (limitChecks h) (winds ++ contactsChecks es) rest) in
+    let from-alterations = e4 ∙ ap (λ x. verdict (alterationChecks (record { 0 = x }) (record { 0 = y })) v3) ex ∙ ap (λ y. verdict (alterationChecks (record { 0 = scaled (h .least) }) (record { 0 = y })) v3) ey ∙ ap (verdict alterations) from-limits
+    ∙ sym (verdict-joined alterations (limitChecks h ++ (winds ++ contactsChecks es)) rest) in
+    let from-desired = e5 ∙ ap (λ z. verdict (distanceChecks (record { 0 = z })) v4) ez ∙ ap (verdict desired) from-alterations ∙ sym (verdict-joined desired (alterations ++ (limitChecks h ++ (winds ++ contactsChecks es))) rest) in
+    e6 ∙ ap (λ o. verdict (vesselChecks (o .motion)) v5) eo ∙ ap (verdict own-checks) from-desired ∙ sym (verdict-joined own-checks (desired ++ (alterations ++ (limitChecks h ++ (winds ++ contactsChecks es)))) rest)
 
 -- ---- the sheet
 module _ (s : List ℕ) (a : Readable) (is : a ≡ readable s) where

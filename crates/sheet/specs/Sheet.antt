@@ -1,4 +1,4 @@
--- The checks of a sheet (01, 'Encounter sheet and its program': 'checks: 15, 14, 16, then values in sheet order').
+-- The checks of a sheet (01, 'Encounter sheet and its program': 'checks: 15, 14, 16, then values in sheet order'; R-1: 'a wind of 360 or more gets number 1').
 use mathlib.Core.List.{List, [], _∷_, _++_, map}
 use Prim.Native.Nat.{ℕ}
 use lib.Dec.{leb}
@@ -7,6 +7,7 @@ use Rattle.elementary.specs.declared.error.Refusal.the-variants as Why
 use Rattle.arguments.specs.declared.Verdict.{Verdict}
 use Rattle.arguments.specs.declared.Verdict.the-variants as Verdict
 use Rattle.arguments.specs.Check.{Check, check, verdict, isDistance, vesselChecks, distanceChecks}
+use Rattle.situation.specs.Arguments.{perhapsChecks}
 use Rattle.constraints.specs.Constraints.{alterationChecks}
 use Rattle.traffic.specs.declared.Entry.{Entry}
 use Rattle.traffic.specs.Traffic.{contactsChecks}
@@ -16,7 +17,7 @@ use Rattle.sheet_record.specs.declared.Row.{Row}
 use Rattle.sheet_record.specs.declared.Readable.{Readable}
 use Rattle.sheet_record.specs.declared.Readable.the-variants as Readable
 use Rattle.sheet_record.specs.Record.{headerOf, rowsOf, readable}
-use Rattle.sheet_values.specs.Values.{scaled, ownOf, entryOf}
+use Rattle.sheet_values.specs.Values.{scaled, ownOf, windFrom, entryOf}
 
 -- ---- codes: own category, visibility, the contacts' categories
 unfoldable pub categoryChecks : List Row → List Check
@@ -33,7 +34,7 @@ limitChecks h = check (isDistance (record { 0 = scaled (h .«cpa_limit») })) Wh
 unfoldable pub valueChecks : Header → List Entry → List Check
 valueChecks h es =
     vesselChecks (ownOf h .motion) ++ (distanceChecks (record { 0 = scaled (h .desired) }) ++ (alterationChecks (record { 0 = scaled (h .least) }) (record { 0 = scaled (h .most) })
-    ++ (limitChecks h ++ contactsChecks es)))
+    ++ (limitChecks h ++ (perhapsChecks (windFrom h) ++ contactsChecks es))))
 
 -- ---- the sheet
 abbrev pub byLayout : Readable → Verdict → Verdict

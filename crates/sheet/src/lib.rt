@@ -12,6 +12,7 @@ use sheet_record::Header;
 use sheet_record::Readable;
 use sheet_record::Rows;
 use sheet_values::scaled;
+use situation::check;
 use time::Duration;
 use traffic::Traffic;
 
@@ -59,13 +60,15 @@ fn check_limits(h: Header, rest: Verdict) -> Verdict
     )
 }
 
-// Own craft, the desired distance, the least and the most alteration, the limits, and the contacts one by one.
+// Own craft, the desired distance, the least and the most alteration, the limits, the wind, and the contacts one by one.
 fn check_values(h: Header, t: Traffic, rest: Verdict) -> Verdict
     ensures { λ r. ⌜ r ≡ Check.verdict (Spec.valueChecks h (Around.contacts t)) rest ⌝ }
 {
     let own = sheet_values::own_of(h);
     let motion = own.motion;
-    let from_limits = check_limits(h, traffic::check_contacts(t, rest));
+    let wind = sheet_values::wind_from(h);
+    let from_wind = check::check_perhaps(wind, traffic::check_contacts(t, rest));
+    let from_limits = check_limits(h, from_wind);
     let least = Angle(scaled(h.least));
     let most = Angle(scaled(h.most));
     let from_least = constraints::check_alterations(least, most, from_limits);

@@ -1,21 +1,24 @@
 -- Encoding what was read gives the bytes back.
 use mathlib.Core.Path.{_≡_, refl, sym, ap, _∙_, subst}
-use mathlib.Core.Bool.{Bool, true, false, _&&_, cond}
+use mathlib.Core.Bool.{Bool, true, false, not, _&&_, cond}
 use mathlib.Core.List.{List, [], _∷_, _++_, flatMap}
 use Prim.Native.Nat.{ℕ, zero, suc, _+_, _-_, _*_, _/_, _%_, _≤_, _<_}
 use native.Mathlib.Omega.{arith}
-use lib.Dec.{T, eqb, leb, eqb→eq, leb→le}
-use lib.ListN.{length, drop}
+use lib.Dec.{T, eqb, leb, eqb→eq, leb→le, nleb→lt}
+use lib.ListN.{length, getD, take, drop, length-take, take-append-drop, List·getD-eq-default}
+use lib.Seq.{drop-cons, take-suc}
 use lib.Ieee.Fits.{and-l, and-r}
 use Rattle.room.specs.Room.{maxContacts}
-use Rattle.sheet_words.specs.Word.{words, wordOf, kind, value, nextKind, inOrder, maxBytes, layout}
+use Rattle.sheet_words.specs.Word.{words, wordOf, kind, value, nextKind, inOrder, hasWind, headerLength, ordered, maxBytes, layout}
+use Rattle.sheet_words.proofs.Words.{short}
+use Rattle.sheet_record.specs.declared.Wind.the-variants as Wind
 use Rattle.sheet_record.specs.declared.Header.{Header}
 use Rattle.sheet_record.specs.declared.Row.{Row}
 use Rattle.elementary.specs.declared.error.Refusal.the-variants as Why
 use Rattle.sheet_record.specs.declared.Readable.{Readable}
 use Rattle.sheet_record.specs.declared.Readable.the-variants.{Yes, Refused}
-use Rattle.sheet_record.specs.Record.{headerOf, contactCount, rowsOf, readable}
-use Rattle.encoding.specs.Encode.{word, wordBytes, headerWords, rowWords, rowsWords, bytesOf, encode}
+use Rattle.sheet_record.specs.Record.{valueAt, windOf, headerOf, contactCount, rowsOf, readable}
+use Rattle.encoding.specs.Encode.{word, wordBytes, windWords, headerWords, rowWords, rowsWords, bytesOf, encode}
 use Rattle.sheet_laws.specs.RoundTrip.{Bytes, WritesBack}
 use Rattle.sheet_laws.proofs.Groups.{rowOf, groups, all-rows}
 
@@ -53,30 +56,64 @@ rows-back (a ∷ b ∷ c ∷ d ∷ e ∷ f ∷ ws) t =
     let t6 = after 14 f ws t5 in
     rw (same-word 9 a (first 9 a (b ∷ c ∷ d ∷ e ∷ f ∷ ws) t), same-word 10 b (first 10 b (c ∷ d ∷ e ∷ f ∷ ws) t1), same-word 11 c (first 11 c (d ∷ e ∷ f ∷ ws) t2), same-word 12 d (first 12 d (e ∷ f ∷ ws) t3), same-word 13 e (first 13 e (f ∷ ws) t4), same-word 14 f (first 14 f ws t5)) (ap (λ (l : List ℕ). a ∷ b ∷ c ∷ d ∷ e ∷ f ∷ l) (rows-back ws t6))
 
--- ---- the header and the rows after it
-words-back : (ws : List ℕ) → T (inOrder 0 ws) → contactCount ws ≤ maxContacts → headerWords (headerOf ws) ++ rowsWords (rowsOf ws) ≡ ws
-unfolding inOrder headerOf headerWords
-words-back [] t few = absurd t
-words-back (w0 ∷ []) t few = absurd (after 0 w0 [] t)
-words-back (w0 ∷ w1 ∷ []) t few = absurd (after 1 w1 [] (after 0 w0 (w1 ∷ []) t))
-words-back (w0 ∷ w1 ∷ w2 ∷ []) t few = absurd (after 2 w2 [] (after 1 w1 (w2 ∷ []) (after 0 w0 (w1 ∷ w2 ∷ []) t)))
-words-back (w0 ∷ w1 ∷ w2 ∷ w3 ∷ []) t few = absurd (after 3 w3 [] (after 2 w2 (w3 ∷ []) (after 1 w1 (w2 ∷ w3 ∷ []) (after 0 w0 (w1 ∷ w2 ∷ w3 ∷ []) t))))
-words-back (w0 ∷ w1 ∷ w2 ∷ w3 ∷ w4 ∷ []) t few = absurd (after 4 w4 [] (after 3 w3 (w4 ∷ []) (after 2 w2 (w3 ∷ w4 ∷ []) (after 1 w1 (w2 ∷ w3 ∷ w4 ∷ []) (after 0 w0 (w1 ∷ w2 ∷ w3 ∷ w4 ∷ []) t)))))
-words-back (w0 ∷ w1 ∷ w2 ∷ w3 ∷ w4 ∷ w5 ∷ []) t few = absurd (after 5 w5 [] (after 4 w4 (w5 ∷ []) (after 3 w3 (w4 ∷ w5 ∷ []) (after 2 w2 (w3 ∷ w4 ∷ w5 ∷ []) (after 1 w1 (w2 ∷ w3 ∷ w4 ∷ w5 ∷ []) (after 0 w0 (w1 ∷ w2 ∷ w3 ∷ w4 ∷ w5 ∷ []) t))))))
-words-back (w0 ∷ w1 ∷ w2 ∷ w3 ∷ w4 ∷ w5 ∷ w6 ∷ []) t few = absurd (after 6 w6 [] (after 5 w5 (w6 ∷ []) (after 4 w4 (w5 ∷ w6 ∷ []) (after 3 w3 (w4 ∷ w5 ∷ w6 ∷ []) (after 2 w2 (w3 ∷ w4 ∷ w5 ∷ w6 ∷ []) (after 1 w1 (w2 ∷ w3 ∷ w4 ∷ w5 ∷ w6 ∷ []) (after 0 w0 (w1 ∷ w2 ∷ w3 ∷ w4 ∷ w5 ∷ w6 ∷ []) t)))))))
-words-back (w0 ∷ w1 ∷ w2 ∷ w3 ∷ w4 ∷ w5 ∷ w6 ∷ w7 ∷ []) t few = absurd (after 7 w7 [] (after 6 w6 (w7 ∷ []) (after 5 w5 (w6 ∷ w7 ∷ []) (after 4 w4 (w5 ∷ w6 ∷ w7 ∷ []) (after 3 w3 (w4 ∷ w5 ∷ w6 ∷ w7 ∷ []) (after 2 w2 (w3 ∷ w4 ∷ w5 ∷ w6 ∷ w7 ∷ []) (after 1 w1 (w2 ∷ w3 ∷ w4 ∷ w5 ∷ w6 ∷ w7 ∷ []) (after 0 w0 (w1 ∷ w2 ∷ w3 ∷ w4 ∷ w5 ∷ w6 ∷ w7 ∷ []) t))))))))
-words-back (w0 ∷ w1 ∷ w2 ∷ w3 ∷ w4 ∷ w5 ∷ w6 ∷ w7 ∷ w8 ∷ ws) t0 few =
-    let t1 = after 0 w0 (w1 ∷ w2 ∷ w3 ∷ w4 ∷ w5 ∷ w6 ∷ w7 ∷ w8 ∷ ws) t0 in
-    let t2 = after 1 w1 (w2 ∷ w3 ∷ w4 ∷ w5 ∷ w6 ∷ w7 ∷ w8 ∷ ws) t1 in
-    let t3 = after 2 w2 (w3 ∷ w4 ∷ w5 ∷ w6 ∷ w7 ∷ w8 ∷ ws) t2 in
-    let t4 = after 3 w3 (w4 ∷ w5 ∷ w6 ∷ w7 ∷ w8 ∷ ws) t3 in
-    let t5 = after 4 w4 (w5 ∷ w6 ∷ w7 ∷ w8 ∷ ws) t4 in
-    let t6 = after 5 w5 (w6 ∷ w7 ∷ w8 ∷ ws) t5 in
-    let t7 = after 6 w6 (w7 ∷ w8 ∷ ws) t6 in
-    let t8 = after 7 w7 (w8 ∷ ws) t7 in
-    let t9 = after 8 w8 ws t8 in
-    rw (same-word 0 w0 (first 0 w0 (w1 ∷ w2 ∷ w3 ∷ w4 ∷ w5 ∷ w6 ∷ w7 ∷ w8 ∷ ws) t0), same-word 1 w1 (first 1 w1 (w2 ∷ w3 ∷ w4 ∷ w5 ∷ w6 ∷ w7 ∷ w8 ∷ ws) t1), same-word 2 w2 (first 2 w2 (w3 ∷ w4 ∷ w5 ∷ w6 ∷ w7 ∷ w8 ∷ ws) t2), same-word 3 w3 (first 3 w3 (w4 ∷ w5 ∷ w6 ∷ w7 ∷ w8 ∷ ws) t3), same-word 4 w4 (first 4 w4 (w5 ∷ w6 ∷ w7 ∷ w8 ∷ ws) t4), same-word 5 w5 (first 5 w5 (w6 ∷ w7 ∷ w8 ∷ ws) t5), same-word 6 w6 (first 6 w6 (w7 ∷ w8 ∷ ws) t6), same-word 7 w7 (first 7 w7 (w8 ∷ ws) t7), same-word 8 w8 (first 8 w8 ws t8))
-    (ap (λ (l : List ℕ). w0 ∷ w1 ∷ w2 ∷ w3 ∷ w4 ∷ w5 ∷ w6 ∷ w7 ∷ w8 ∷ l) (ap rowsWords (all-rows (w0 ∷ w1 ∷ w2 ∷ w3 ∷ w4 ∷ w5 ∷ w6 ∷ w7 ∷ w8 ∷ ws) few) ∙ rows-back ws t9))
+-- ---- words with the kinds that are due
+unfoldable spelled : ℕ → List ℕ → List ℕ
+spelled k [] = []
+spelled k (w ∷ ws) = word k (value w) ∷ spelled (nextKind k) ws
+
+spelled-same : (k : ℕ) (ws : List ℕ) → T (inOrder k ws) → spelled k ws ≡ ws
+unfolding spelled
+spelled-same k [] t = refl
+spelled-same k (w ∷ ws) t = ap (λ v. v ∷ spelled (nextKind k) ws) (same-word k w (first k w ws t)) ∙ ap (λ (l : List ℕ). w ∷ l) (spelled-same (nextKind k) ws (after k w ws t))
+
+-- ---- the header, and the rows after it
+module _ (ws : List ℕ) (t : T (ordered ws)) (few : contactCount ws ≤ maxContacts) where
+  header-ordered : T (inOrder 0 (take 9 ws))
+  unfolding ordered
+  header-ordered = and-l (inOrder 0 (take 9 ws)) (inOrder 9 (drop (headerLength ws) ws)) t
+
+  rows-ordered : T (inOrder 9 (drop (headerLength ws) ws))
+  unfolding ordered
+  rows-ordered = and-r (inOrder 0 (take 9 ws)) (inOrder 9 (drop (headerLength ws) ws)) t
+
+  long : 9 ≤ length ws
+  long = go (leb 9 (length ws)) refl
+    where
+      go : (b : Bool) → leb 9 (length ws) ≡ b → 9 ≤ length ws
+      go true e = leb→le 9 (length ws) (subst T (sym e) tt)
+      go false e = absurd (subst T (short 0 (take 9 ws) (omega (arith, nleb→lt 9 (length ws) (subst (λ b. T (not b)) (sym e) tt), length-take 9 ws))) header-ordered)
+
+  abbrev nine : List ℕ
+  nine = getD ws 0 0 ∷ getD ws 1 0 ∷ getD ws 2 0 ∷ getD ws 3 0 ∷ getD ws 4 0 ∷ getD ws 5 0 ∷ getD ws 6 0 ∷ getD ws 7 0 ∷ getD ws 8 0 ∷ []
+
+  are-nine : take 9 ws ≡ nine
+  are-nine = rw (take-suc ws 8 0 (omega (arith, long)), take-suc ws 7 0 (omega (arith, long)), take-suc ws 6 0 (omega (arith, long)), take-suc ws 5 0 (omega (arith, long)), take-suc ws 4 0 (omega (arith, long)), take-suc ws 3 0 (omega (arith, long)), take-suc ws 2 0 (omega (arith, long)), take-suc ws 1 0 (omega (arith, long)), take-suc ws 0 0 (omega (arith, long))) refl
+
+  nine-back : spelled 0 nine ≡ take 9 ws
+  nine-back = spelled-same 0 nine (subst (λ l. T (inOrder 0 l)) are-nine header-ordered) ∙ sym are-nine
+
+  -- a word that tells the wind is there
+  there : kind (getD ws 9 0) ≡ 15 → 9 < length ws
+  there e = go (leb (length ws) 9) refl
+    where
+      go : (b : Bool) → leb (length ws) 9 ≡ b → 9 < length ws
+      go true q = absurd (omega (arith, ap kind (List·getD-eq-default ws 0 (leb→le (length ws) 9 (subst T (sym q) tt))), e))
+      go false q = nleb→lt (length ws) 9 (subst (λ b. T (not b)) (sym q) tt)
+
+  wind-back : windWords (windOf ws) ++ drop (headerLength ws) ws ≡ drop 9 ws
+  wind-back = go (hasWind ws) refl
+    where
+      go : (b : Bool) → hasWind ws ≡ b → windWords (cond b (Wind.From (valueAt ws 9)) Wind.Unknown) ++ drop (cond b 10 9) ws ≡ drop 9 ws
+      go true e =
+          let due-15 : due 15 (getD ws 9 0) = subst T (sym e) tt in
+          ap (λ (w : ℕ). w ∷ drop 10 ws) (same-word 15 (getD ws 9 0) due-15) ∙ sym (drop-cons ws 9 0 (there (eqb→eq (kind (getD ws 9 0)) 15 due-15)))
+      go false e = refl
+
+  words-back : headerWords (headerOf ws) ++ rowsWords (rowsOf ws) ≡ ws
+  unfolding headerOf headerWords spelled
+  words-back =
+      ap (λ l. headerWords (headerOf ws) ++ l) (ap rowsWords (all-rows ws few) ∙ rows-back (drop (headerLength ws) ws) rows-ordered)
+      ∙ ap (λ l. spelled 0 nine ++ l) wind-back ∙ ap (λ l. l ++ drop 9 ws) nine-back ∙ take-append-drop 9 ws
 
 -- ---- bytes
 same-bytes : (a b c d : ℕ) → a < 256 → b < 256 → c < 256 → d < 256 → wordBytes (wordOf a b c d) ≡ a ∷ b ∷ c ∷ d ∷ []
@@ -136,12 +173,12 @@ module _ (s : List ℕ) (v : Bytes s) (yes : readable s ≡ Yes) where
 
   aligned : length s % 4 ≡ 0
   unfolding layout
-  aligned = eqb→eq (length s % 4) 0 (and-l (eqb (length s % 4) 0) (inOrder 0 (words s)) (and-r (leb (length s) maxBytes) (eqb (length s % 4) 0 && inOrder 0 (words s)) t))
+  aligned = eqb→eq (length s % 4) 0 (and-l (eqb (length s % 4) 0) (ordered (words s)) (and-r (leb (length s) maxBytes) (eqb (length s % 4) 0 && ordered (words s)) t))
 
-  ordered : T (inOrder 0 (words s))
+  in-sequence : T (ordered (words s))
   unfolding layout
-  ordered = and-r (eqb (length s % 4) 0) (inOrder 0 (words s)) (and-r (leb (length s) maxBytes) (eqb (length s % 4) 0 && inOrder 0 (words s)) t)
+  in-sequence = and-r (eqb (length s % 4) 0) (ordered (words s)) (and-r (leb (length s) maxBytes) (eqb (length s % 4) 0 && ordered (words s)) t)
 
   pub writes-back : WritesBack s
   unfolding encode
-  writes-back = ap bytesOf (words-back (words s) ordered few) ∙ bytes-back s v aligned
+  writes-back = ap bytesOf (words-back (words s) in-sequence few) ∙ bytes-back s v aligned

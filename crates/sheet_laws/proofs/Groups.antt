@@ -8,7 +8,7 @@ use native.Mathlib.Omega.{arith}
 use lib.ListN.{length, getD, take, drop, length-drop}
 use lib.Seq.{getD-drop, take-all, take-suc}
 use Rattle.room.specs.Room.{maxContacts}
-use Rattle.sheet_words.specs.Word.{value}
+use Rattle.sheet_words.specs.Word.{value, headerLength}
 use Rattle.sheet_record.specs.declared.Row.{Row}
 use Rattle.sheet_record.specs.Record.{contactCount, rowFrom, firstRows, rowsOf}
 
@@ -59,14 +59,14 @@ nth (suc n) (a ∷ b ∷ c ∷ d1 ∷ e ∷ f ∷ ws) d h = ap (rowFrom (a ∷ b
 
 module _ (ws : List ℕ) where
   abbrev rest : List ℕ
-  rest = drop 9 ws
+  rest = drop (headerLength ws) ws
 
   firsts : (n : ℕ) → n ≤ length (groups rest) → firstRows ws n ≡ take n (groups rest)
   unfolding firstRows
   firsts zero h = refl
   firsts (suc n) h =
       let d = rowFrom ws 0 in
-      ap (λ l. l ++ (rowFrom ws (9 + 6 * n) ∷ [])) (firsts n (omega (arith, h))) ∙ ap (λ r. take n (groups rest) ++ (r ∷ [])) (shifted 9 (6 * n) ws ∙ nth n rest d h) ∙ sym (take-suc (groups rest) n d h)
+      ap (λ l. l ++ (rowFrom ws (headerLength ws + 6 * n) ∷ [])) (firsts n (omega (arith, h))) ∙ ap (λ r. take n (groups rest) ++ (r ∷ [])) (shifted (headerLength ws) (6 * n) ws ∙ nth n rest d h) ∙ sym (take-suc (groups rest) n d h)
 
   -- all rows of a sheet that has no more than there is room for
   pub all-rows : contactCount ws ≤ maxContacts → rowsOf ws ≡ groups rest
@@ -74,5 +74,5 @@ module _ (ws : List ℕ) where
   all-rows few =
       ap (firstRows ws) many ∙ firsts (length (groups rest)) (omega arith) ∙ take-all (length (groups rest)) (groups rest) (omega arith)
     where
-      many : min ((length ws - 9) / 6) maxContacts ≡ length (groups rest)
-      many = omega (arith, as-many rest, length-drop 9 ws, few)
+      many : min ((length ws - headerLength ws) / 6) maxContacts ≡ length (groups rest)
+      many = omega (arith, as-many rest, length-drop (headerLength ws) ws, few)

@@ -1,5 +1,6 @@
--- Laws on the refusals of a sheet and on its round trip.
+-- Laws on the refusals of a sheet, on its round trip and on sheets without the wind.
 pub mod Groups
 pub mod Back
 pub mod Forth
 pub mod Refusals
+pub mod AsBefore

@@ -11,16 +11,18 @@ use Rattle.arguments.specs.declared.Verdict.{Verdict}
 use Rattle.arguments.specs.declared.Verdict.the-variants as Verdict
 use Rattle.arguments.specs.Check.{Check, verdict, vesselChecks, contactChecks, distanceChecks}
 use Rattle.arguments.proofs.Checks.{verdict-joined}
-use Rattle.situation.specs.Arguments.{partyChecks}
+use Rattle.situation.specs.Arguments.{perhapsChecks, partyChecks}
 use Rattle.constraints.specs.Constraints.{alterationChecks}
 use Rattle.traffic.specs.declared.Entry.{Entry}
 use Rattle.traffic.specs.Traffic.{entryChecks, contactsChecks}
 use Rattle.sheet_words.specs.Word.{words, layout}
+use Rattle.sheet_record.specs.declared.Wind.{Wind}
+use Rattle.sheet_record.specs.declared.Wind.the-variants as Wind
 use Rattle.sheet_record.specs.declared.Header.{Header}
 use Rattle.sheet_record.specs.declared.Row.{Row}
 use Rattle.sheet_record.specs.declared.Readable.the-variants as Readable
 use Rattle.sheet_record.specs.Record.{headerOf, rowsOf, readable}
-use Rattle.sheet_values.specs.Values.{scaled, partyOf, ownOf, entryOf}
+use Rattle.sheet_values.specs.Values.{scaled, partyOf, ownOf, windBy, windFrom, entryOf}
 use Rattle.sheet.specs.Sheet.{categoryChecks, codeChecks, limitChecks, valueChecks, byLayout, sheetVerdict}
 use Rattle.sheet_laws.specs.Exactly.{few, knownRows, known, codes, values, numberIn, Exactly}
 
@@ -48,9 +50,13 @@ unfolding contactsChecks entryChecks partyChecks entryOf partyOf
 rows-within [] = tt
 rows-within (r ∷ rs) = (lit≤ tt, (lit≤ tt, (lit≤ tt, (lit≤ tt, rows-within rs))))
 
+wind-within : (w : Wind) → Within (perhapsChecks (windBy w))
+wind-within Wind.Unknown = tt
+wind-within (Wind.From n) = (lit≤ tt, tt)
+
 values-within : (h : Header) (rs : List Row) → Within (valueChecks h (map entryOf rs))
-unfolding valueChecks
-values-within h rs = (lit≤ tt, (lit≤ tt, (lit≤ tt, (lit≤ tt, (lit≤ tt, (lit≤ tt, (lit≤ tt, rows-within rs)))))))
+unfolding valueChecks windFrom
+values-within h rs = (lit≤ tt, (lit≤ tt, (lit≤ tt, (lit≤ tt, (lit≤ tt, (lit≤ tt, (lit≤ tt, within-both (perhapsChecks (windBy (h .wind))) (contactsChecks (map entryOf rs)) (wind-within (h .wind)) (rows-within rs))))))))
 
 -- ---- the codes
 categories-decide : (rs : List Row) (rest : Verdict) → verdict (categoryChecks rs) rest ≡ cond (knownRows rs) rest (Verdict.Refused Why.UnknownCode)

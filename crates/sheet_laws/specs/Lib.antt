@@ -1,3 +1,4 @@
--- When a sheet is refused, and its round trip.
+-- When a sheet is refused, its round trip, and sheets without the wind.
 pub mod Exactly
+pub mod AsBefore
 pub mod RoundTrip

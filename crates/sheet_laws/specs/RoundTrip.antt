@@ -6,6 +6,8 @@ use Prim.Native.Nat.{ℕ, _<_, _≤_}
 use lib.ListN.{length}
 use Rattle.room.specs.Room.{maxContacts}
 use Rattle.sheet_words.specs.Word.{words, layout}
+use Rattle.sheet_record.specs.declared.Wind.{Wind}
+use Rattle.sheet_record.specs.declared.Wind.the-variants as Wind
 use Rattle.sheet_record.specs.declared.Header.{Header}
 use Rattle.sheet_record.specs.declared.Row.{Row}
 use Rattle.sheet_record.specs.declared.Readable.the-variants.{Yes}
@@ -14,6 +16,10 @@ use Rattle.encoding.specs.Encode.{encode}
 
 abbrev pub Value : ℕ → Type 0
 Value v = v < 268435456
+
+abbrev pub WindValue : Wind → Type 0
+WindValue Wind.Unknown = Unit
+WindValue (Wind.From n) = Value n
 
 pub record HeaderValues (h : Header) : Type 0 where
   pub course : Value (h .course)
@@ -25,6 +31,7 @@ pub record HeaderValues (h : Header) : Type 0 where
   pub most : Value (h .most)
   pub cpa : Value (h .«cpa_limit»)
   pub tcpa : Value (h .«tcpa_limit»)
+  pub wind : WindValue (h .wind)
 
 pub record RowValues (r : Row) : Type 0 where
   pub id : Value (r .id)

@@ -9,25 +9,25 @@ use lib.ListN.{length}
 use borrow.Author.Tests.{le-leb, lt-leb}
 use Rattle.elementary.specs.declared.error.Refusal.the-variants as Why
 use Rattle.room.specs.Room.{maxContacts}
-use Rattle.sheet_words.specs.Word.{words, layout}
+use Rattle.sheet_words.specs.Word.{headerLength, words, layout}
 use Rattle.sheet_words.proofs.Words as Words
 use Rattle.sheet_record.specs.declared.Readable.{Readable}
 use Rattle.sheet_record.specs.declared.Readable.the-variants.{Yes, Refused}
 use Rattle.sheet_record.specs.Record.{contactCount, readable}
 
 -- ---- the count
-module _ (s : List ℕ) where
-  of-bytes : (length s / 4 - 9) / 6 ≡ contactCount (words s)
+module _ (s : List ℕ) (first : ℕ) (is : first ≡ headerLength (words s)) where
+  of-bytes : (length s / 4 - first) / 6 ≡ contactCount (words s)
   unfolding contactCount
-  of-bytes = ap (λ n. (n - 9) / 6) (sym (Words.count s))
+  of-bytes = ap (λ n. (n - first) / 6) (sym (Words.count s)) ∙ ap (λ f. (length (words s) - f) / 6) is
 
-  pub few : length s / 4 < 9 → 0 ≡ contactCount (words s)
+  pub few : length s / 4 < first → 0 ≡ contactCount (words s)
   few h = none (length s / 4) h ∙ of-bytes
     where
-      none : (n : ℕ) → n < 9 → 0 ≡ (n - 9) / 6
+      none : (n : ℕ) → n < first → 0 ≡ (n - first) / 6
       none n h = omega arith
 
-  pub many : 9 ≤ length s / 4 → (length s / 4 - 9) / 6 ≡ contactCount (words s)
+  pub many : first ≤ length s / 4 → (length s / 4 - first) / 6 ≡ contactCount (words s)
   many h = of-bytes
 
 -- ---- layout, then count

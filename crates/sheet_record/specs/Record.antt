@@ -1,4 +1,4 @@
--- A sheet's words as a record of whole numbers (01, 'Encounter sheet and its program': the order of the words; 'checks: 15, 14, …').
+-- A sheet's words as a record of whole numbers (01, 'Encounter sheet and its program': the order of the words; 'checks: 15, 14, …'; R-1: 'the header record … gain[s] that wind').
 use mathlib.Core.Bool.{cond}
 use mathlib.Core.List.{List, [], _∷_, _++_}
 use Prim.Native.Nat.{ℕ, zero, suc, _+_, _-_, _*_, _/_, _%_, min}
@@ -6,7 +6,9 @@ use lib.Dec.{leb}
 use lib.ListN.{length, getD, take}
 use Rattle.elementary.specs.declared.error.Refusal.the-variants as Why
 use Rattle.room.specs.Room.{maxContacts}
-use Rattle.sheet_words.specs.Word.{words, value, layout}
+use Rattle.sheet_words.specs.Word.{words, value, hasWind, headerLength, layout}
+use Rattle.sheet_record.specs.declared.Wind.{Wind}
+use Rattle.sheet_record.specs.declared.Wind.the-variants as Wind
 use Rattle.sheet_record.specs.declared.Header.{Header}
 use Rattle.sheet_record.specs.declared.Row.{Row}
 use Rattle.sheet_record.specs.declared.Rows.{Rows}
@@ -16,6 +18,10 @@ use Rattle.sheet_record.specs.declared.Readable.the-variants.{Yes, Refus
 -- the value of word i, 0 where there is none
 abbrev pub valueAt : List ℕ → ℕ → ℕ
 valueAt ws i = value (getD ws i 0)
+
+-- where the wind comes from, if the sheet tells it
+abbrev pub windOf : List ℕ → Wind
+windOf ws = cond (hasWind ws) (Wind.From (valueAt ws 9)) Wind.Unknown
 
 unfoldable pub headerOf : List ℕ → Header
 headerOf ws = record {
@@ -28,11 +34,12 @@ headerOf ws = record {
   most = valueAt ws 6;
   «cpa_limit» = valueAt ws 7;
   «tcpa_limit» = valueAt ws 8;
+  wind = windOf ws;
 }
 
--- after the header's nine words, six each
+-- after the header's words, six each
 unfoldable pub contactCount : List ℕ → ℕ
-contactCount ws = (length ws - 9) / 6
+contactCount ws = (length ws - headerLength ws) / 6
 
 unfoldable pub rowFrom : List ℕ → ℕ → Row
 rowFrom ws i = record {
@@ -50,7 +57,7 @@ held i = i % 65536
 
 unfoldable pub firstRows : List ℕ → ℕ → List Row
 firstRows ws zero = []
-firstRows ws (suc n) = firstRows ws n ++ (rowFrom ws (9 + 6 * n) ∷ [])
+firstRows ws (suc n) = firstRows ws n ++ (rowFrom ws (headerLength ws + 6 * n) ∷ [])
 
 -- as many as there is room for
 unfoldable pub rowsOf : List ℕ → List Row

@@ -6,6 +6,12 @@ ghost use Rattle.sheet_record.specs.Record as Spec;
 use elementary::error::Refusal;
 use room::MAX_CONTACTS;
 
+// Where the wind comes from, in 1/1024 degree.
+pub enum Wind {
+    Unknown,
+    From(u32),
+}
+
 // Angles, speeds and distances count 1/1024, the TCPA limit seconds.
 pub struct Header {
     pub course: u32,
@@ -17,6 +23,7 @@ pub struct Header {
     pub most: u32,
     pub cpa_limit: u32,
     pub tcpa_limit: u32,
+    pub wind: Wind,
 }
 
 pub struct Row {
@@ -47,7 +54,17 @@ fn value_at(bytes: &[u8], i: usize) -> u32
     sheet_words::value_of(sheet_words::word_at(bytes, i))
 }
 
-// The header of a sheet; what is not there is 0.
+// Where the wind comes from, if the sheet tells it.
+fn wind_of(bytes: &[u8]) -> Wind
+    ensures { λ r. ⌜ r ≡ Spec.windOf (Words.words (now (bytes .entry))) ⌝ }
+{
+    if sheet_words::has_wind(bytes) {
+        return Wind::From(value_at(bytes, 9));
+    }
+    Wind::Unknown
+}
+
+// The header of a sheet; what is not there is 0, and an unknown wind.
 pub fn header_of(bytes: &[u8]) -> Header
     ensures { λ r. ⌜ r ≡ Spec.headerOf (Words.words (now (bytes .entry))) ⌝ }
 {
@@ -61,6 +78,7 @@ pub fn header_of(bytes: &[u8]) -> Header
         most: value_at(bytes, 6),
         cpa_limit: value_at(bytes, 7),
         tcpa_limit: value_at(bytes, 8),
+        wind: wind_of(bytes),
     }
 }
 
@@ -69,10 +87,11 @@ pub fn contact_count(bytes: &[u8]) -> usize
     ensures { λ r. ⌜ r ≡ Spec.contactCount (Words.words (now (bytes .entry))) ⌝ }
 {
     let count = bytes.len() / 4;
-    if count < 9 {
+    let first = sheet_words::header_length(bytes);
+    if count < first {
         return 0;
     }
-    (count - 9) / 6
+    (count - first) / 6
 }
 
 // The contact whose words begin at word i; what is not there is 0.
@@ -96,13 +115,14 @@ pub fn rows_of(bytes: &[u8]) -> Rows
     ensures listed { λ r. ⌜ Spec.rows r ≡ Spec.rowsOf (Words.words (now (bytes .entry))) ⌝ }
 {
     let n = room::held(contact_count(bytes));
+    let first = sheet_words::header_length(bytes);
     let mut rows = Rows {
         count: 0,
-        list: [row_from(bytes, 9); MAX_CONTACTS],
+        list: [row_from(bytes, first); MAX_CONTACTS],
     };
     let mut i: usize = 0;
     while i < n {
-        let row = row_from(bytes, 9 + 6 * i);
+        let row = row_from(bytes, first + 6 * i);
         rows.list[i] = row;
         i += 1;
     }

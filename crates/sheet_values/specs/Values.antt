@@ -1,4 +1,4 @@
--- What a sheet's numbers stand for (01, 'Encounter sheet and its program': 'angles, speeds, distances count 1/1024'; 'categories: 0 power, 1 sailing, tack unknown, 2 port tack, 3 starboard tack, 4 fishing, 5 draught, 6 restricted, 7 not under command'; 'visibility (0 in sight, 1 restricted)').
+-- What a sheet's numbers stand for (01, 'Encounter sheet and its program': 'angles, speeds, distances count 1/1024'; 'categories: 0 power, 1 sailing, tack unknown, 2 port tack, 3 starboard tack, 4 fishing, 5 draught, 6 restricted, 7 not under command'; 'visibility (0 in sight, 1 restricted)'; R-1: 'where the wind comes from, in 1/1024 degree').
 use mathlib.Core.Bool.{cond}
 use Prim.Native.Nat.{ℕ}
 use lib.Dec.{eqb}
@@ -12,8 +12,11 @@ use Rattle.situation.specs.declared.party.VesselCategory.the-variants.{PowerDri
 use Rattle.situation.specs.declared.party.Visibility.{Visibility}
 use Rattle.situation.specs.declared.party.Visibility.the-variants.{InSight, Restricted}
 use Rattle.situation.specs.declared.party.Party.{Party}
-use Rattle.situation.specs.declared.party.Perhaps.the-variants.{Unknown}
+use Rattle.situation.specs.declared.party.Perhaps.{Perhaps}
+use Rattle.situation.specs.declared.party.Perhaps.the-variants.{Unknown, Known}
 use Rattle.traffic.specs.declared.Entry.{Entry}
+use Rattle.sheet_record.specs.declared.Wind.{Wind}
+use Rattle.sheet_record.specs.declared.Wind.the-variants as Wind
 use Rattle.sheet_record.specs.declared.Header.{Header}
 use Rattle.sheet_record.specs.declared.Row.{Row}
 
@@ -45,6 +48,13 @@ partyOf course speed category = record { motion = vesselOf course speed; heading
 
 unfoldable pub ownOf : Header → Party
 ownOf h = partyOf (h .course) (h .speed) (h .category)
+
+abbrev pub windBy : Wind → Perhaps
+windBy Wind.Unknown = Unknown
+windBy (Wind.From n) = Known (record { 0 = scaled n })
+
+unfoldable pub windFrom : Header → Perhaps
+windFrom h = windBy (h .wind)
 
 unfoldable pub entryOf : Row → Entry
 entryOf row = record {

@@ -13,6 +13,7 @@ use room::MAX_CONTACTS;
 use sheet_record::Header;
 use sheet_record::Row;
 use sheet_record::Rows;
+use sheet_record::Wind;
 use situation::party::Party;
 use situation::party::Perhaps;
 use situation::party::Tack;
@@ -97,6 +98,17 @@ pub fn own_of(h: Header) -> Party
     ensures { λ r. ⌜ r ≡ Spec.ownOf h ⌝ }
 {
     party_of(h.course, h.speed, h.category)
+}
+
+// Where the wind comes from, if the sheet tells it.
+pub fn wind_from(h: Header) -> Perhaps
+    ensures { λ r. ⌜ r ≡ Spec.windFrom h ⌝ }
+{
+    let wind = h.wind;
+    match wind {
+        Wind::Unknown => Perhaps::Unknown,
+        Wind::From(n) => Perhaps::Known(Direction(scaled(n))),
+    }
 }
 
 // A contact of a sheet; she heads where she goes.

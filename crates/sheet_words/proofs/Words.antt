@@ -6,10 +6,10 @@ use Prim.Native.Nat.{ℕ, zero, suc, _+_, _-_, _*_, _/_, _%_, _≤_, _<_}
 use native.Mathlib.Numerals.{add-one}
 use native.Mathlib.Omega.{arith}
 use lib.Dec.{eqb, leb}
-use lib.ListN.{length, getD, drop, length-drop, List·getD-eq-default}
-use lib.Seq.{drop-cons, getD-drop, drop-length}
-use borrow.Author.Tests.{eq-eqb, ne-eqb, le-leb, lt-leb}
-use Rattle.sheet_words.specs.Word.{words, wordFrom, kind, nextKind, inOrder, maxBytes, layout}
+use lib.ListN.{length, getD, take, drop, length-take, length-drop, drop-of-length-le, List·getD-eq-default}
+use lib.Seq.{getD-drop, slice, slice-cons, take-all}
+use borrow.Author.Tests.{eq-eqb, ne-eqb, lt-ltb, le-leb, lt-leb}
+use Rattle.sheet_words.specs.Word.{words, wordFrom, kind, nextKind, inOrder, hasWind, headerLength, ordered, maxBytes, layout}
 
 -- ---- the words by their place
 pub count : (s : List ℕ) → length (words s) ≡ length s / 4
@@ -75,36 +75,72 @@ at-place (suc i) s h =
 pub past : (s : List ℕ) (i : ℕ) → length s / 4 ≤ i → 0 ≡ getD (words s) i 0
 past s i h = sym (List·getD-eq-default (words s) 0 (subst (λ n. n ≤ i) (sym (count s)) h))
 
--- ---- the loop over the words
-module _ (s : List ℕ) where
+-- ---- the loop over the words from one place up to another
+module _ (ws : List ℕ) (to : ℕ) where
   -- what is still to be seen, from word i on
   abbrev pub left : ℕ → ℕ → Bool
-  left k i = inOrder k (drop i (words s))
+  left k i = inOrder k (slice i to ws)
 
-  module _ (i : ℕ) (h : i < length (words s)) where
-    here : (k : ℕ) → left k i ≡ eqb (kind (getD (words s) i 0)) k && left (nextKind k) (i + 1)
+  module _ (i : ℕ) (h : i < to) (in-sheet : to ≤ length ws) where
+    here : (k : ℕ) → left k i ≡ eqb (kind (getD ws i 0)) k && left (nextKind k) (i + 1)
     unfolding inOrder
-    here k = ap (inOrder k) (drop-cons (words s) i 0 h) ∙ ap (λ j. eqb (kind (getD (words s) i 0)) k && inOrder (nextKind k) (drop j (words s))) (sym (add-one i))
+    here k = ap (inOrder k) (slice-cons i to ws 0 h in-sheet) ∙ ap (λ j. eqb (kind (getD ws i 0)) k && inOrder (nextKind k) (slice j to ws)) (sym (add-one i))
 
-    pub goes-on : (k w v next : ℕ) → w ≡ getD (words s) i 0 → v ≡ kind w → v ≡ k → next ≡ nextKind k → left next (i + 1) ≡ left k i
-    goes-on k w v next ew ev e en = ap (λ n. left n (i + 1)) en ∙ ap (λ b. b && left (nextKind k) (i + 1)) (sym (eq-eqb (kind (getD (words s) i 0)) k (sym (ev ∙ ap kind ew) ∙ e))) ∙ sym (here k)
+    pub goes-on : (k w v next : ℕ) → w ≡ getD ws i 0 → v ≡ kind w → v ≡ k → next ≡ nextKind k → left next (i + 1) ≡ left k i
+    goes-on k w v next ew ev e en = ap (λ n. left n (i + 1)) en ∙ ap (λ b. b && left (nextKind k) (i + 1)) (sym (eq-eqb (kind (getD ws i 0)) k (sym (ev ∙ ap kind ew) ∙ e))) ∙ sym (here k)
 
-    pub wrong : (k w v : ℕ) → w ≡ getD (words s) i 0 → v ≡ kind w → (v ≡ k → ⊥) → false ≡ left k i
-    wrong k w v ew ev ne = ap (λ b. b && left (nextKind k) (i + 1)) (sym (ne-eqb (kind (getD (words s) i 0)) k (λ e. ne (ev ∙ ap kind ew ∙ e)))) ∙ sym (here k)
+    pub wrong : (k w v : ℕ) → w ≡ getD ws i 0 → v ≡ kind w → (v ≡ k → ⊥) → false ≡ left k i
+    wrong k w v ew ev ne = ap (λ b. b && left (nextKind k) (i + 1)) (sym (ne-eqb (kind (getD ws i 0)) k (λ e. ne (ev ∙ ap kind ew ∙ e)))) ∙ sym (here k)
 
-  pub ends : (k i : ℕ) → i ≡ length (words s) → eqb k 9 ≡ left k i
+  pub ends : (k i : ℕ) → to ≤ i → eqb k 9 ≡ left k i
   unfolding inOrder
-  ends k i e = ap (inOrder k) (sym (ap (λ j. drop j (words s)) e ∙ drop-length (words s)))
+  ends k i h = ap (inOrder k) (sym (drop-of-length-le (take to ws) {i = i} (omega (arith, length-take to ws, h))))
 
-  -- ---- the layout
+-- ---- the header, then the contacts
+pub short : (k : ℕ) (ws : List ℕ) → k + length ws < 9 → inOrder k ws ≡ false
+unfolding inOrder
+short k [] h = ne-eqb k 9 (λ e. omega (arith, e))
+short k (w ∷ ws) h = ap (λ n. eqb (kind w) k && inOrder n ws) next ∙ ap (λ b. eqb (kind w) k && b) (short (k + 1) ws (omega (arith, h))) ∙ never (eqb (kind w) k)
+  where
+    next : nextKind k ≡ k + 1
+    next = ap (λ b. cond b (k + 1) 9) (lt-ltb k 14 (omega (arith, h)))
+
+    never : (b : Bool) → b && false ≡ false
+    never true = refl
+    never false = refl
+
+module _ (ws : List ℕ) where
+  pub too-few : length ws < 9 → false ≡ ordered ws
+  unfolding ordered
+  too-few h = ap (λ b. b && inOrder 9 (drop (headerLength ws) ws)) (sym (short 0 (take 9 ws) (omega (arith, h, length-take 9 ws))))
+
+  pub headed : (b : Bool) → b ≡ inOrder 0 (slice 0 9 ws) → b ≡ true → (n first : ℕ) → n ≡ length ws → first ≡ headerLength ws → (r : Bool) → r ≡ inOrder 9 (slice first n ws) → r ≡ ordered ws
+  unfolding ordered
+  headed b eb e n first en ef r er =
+      er ∙ ap (λ l. inOrder 9 (drop first l)) (take-all n ws (omega (arith, en))) ∙ ap (λ j. inOrder 9 (drop j ws)) ef
+      ∙ ap (λ b. b && inOrder 9 (drop (headerLength ws) ws)) (sym e ∙ eb)
+
+  pub not-headed : (b : Bool) → b ≡ inOrder 0 (slice 0 9 ws) → b ≡ false → false ≡ ordered ws
+  unfolding ordered
+  not-headed b eb e = ap (λ b. b && inOrder 9 (drop (headerLength ws) ws)) (sym e ∙ eb)
+
+  pub at-most-ten : headerLength ws ≤ 10
+  at-most-ten = go (hasWind ws)
+    where
+      go : (b : Bool) → cond b 10 9 ≤ 10
+      go true = omega arith
+      go false = omega arith
+
+-- ---- the layout
+module _ (s : List ℕ) where
   pub too-long : maxBytes < length s → false ≡ layout s
   unfolding layout
-  too-long h = ap (λ b. b && (eqb (length s % 4) 0 && inOrder 0 (words s))) (sym (lt-leb (length s) maxBytes h))
+  too-long h = ap (λ b. b && (eqb (length s % 4) 0 && ordered (words s))) (sym (lt-leb (length s) maxBytes h))
 
-  pub whole : length s ≤ maxBytes → length s % 4 ≡ 0 → (r : Bool) → r ≡ inOrder 0 (words s) → r ≡ layout s
+  pub whole : length s ≤ maxBytes → length s % 4 ≡ 0 → (r : Bool) → r ≡ ordered (words s) → r ≡ layout s
   unfolding layout
-  whole h e r er = er ∙ ap (λ b. b && inOrder 0 (words s)) (sym (eq-eqb (length s % 4) 0 e)) ∙ ap (λ b. b && (eqb (length s % 4) 0 && inOrder 0 (words s))) (sym (le-leb (length s) maxBytes h))
+  whole h e r er = er ∙ ap (λ b. b && ordered (words s)) (sym (eq-eqb (length s % 4) 0 e)) ∙ ap (λ b. b && (eqb (length s % 4) 0 && ordered (words s))) (sym (le-leb (length s) maxBytes h))
 
   pub odd : length s ≤ maxBytes → (length s % 4 ≡ 0 → ⊥) → false ≡ layout s
   unfolding layout
-  odd h e = ap (λ b. b && inOrder 0 (words s)) (sym (ne-eqb (length s % 4) 0 e)) ∙ ap (λ b. b && (eqb (length s % 4) 0 && inOrder 0 (words s))) (sym (le-leb (length s) maxBytes h))
+  odd h e = ap (λ b. b && ordered (words s)) (sym (ne-eqb (length s % 4) 0 e)) ∙ ap (λ b. b && (eqb (length s % 4) 0 && ordered (words s))) (sym (le-leb (length s) maxBytes h))

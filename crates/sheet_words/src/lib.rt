@@ -1,6 +1,7 @@
 // An encounter sheet's bytes as words, and the order of their kinds (document 01, 'Encounter sheet and its program').
 ghost use mathlib.Core.Path.{_≡_};
 ghost use lib.ListN.{length, getD};
+ghost use lib.Seq.{slice};
 ghost use Prim.Native.Nat.{_*_, _+_, _≤_, _<_};
 ghost use Rattle.sheet_words.specs.Word as Spec;
 
@@ -59,14 +60,31 @@ fn next_kind(kind: u32) -> u32
     9
 }
 
-// Whether the kinds of all words are in order, for whole contacts.
-fn in_order(bytes: &[u8]) -> bool
-    ensures { λ r. ⌜ r ≡ Spec.inOrder 0 (Spec.words (now (bytes .entry))) ⌝ }
+// Whether a sheet tells the wind: its tenth word is of kind F.
+pub fn has_wind(bytes: &[u8]) -> bool
+    ensures { λ r. ⌜ r ≡ Spec.hasWind (Spec.words (now (bytes .entry))) ⌝ }
 {
-    let count = bytes.len() / 4;
-    let mut kind: u32 = 0;
-    let mut i: usize = 0;
-    while i < count {
+    kind_of(word_at(bytes, 9)) == 15
+}
+
+// How many words come before the contacts.
+pub fn header_length(bytes: &[u8]) -> usize
+    ensures { λ r. ⌜ r ≡ Spec.headerLength (Spec.words (now (bytes .entry))) ⌝ }
+{
+    if has_wind(bytes) {
+        return 10;
+    }
+    9
+}
+
+// Whether the kinds of the words from one place up to another are in order, `first` being due first.
+fn in_order(bytes: &[u8], first: u32, from: usize, to: usize) -> bool
+    requires { ⌜ to ≤ length (Spec.words (now bytes)) ⌝ }
+    ensures { λ r. ⌜ r ≡ Spec.inOrder first (slice from to (Spec.words (now (bytes .entry)))) ⌝ }
+{
+    let mut kind = first;
+    let mut i = from;
+    while i < to {
         if kind_of(word_from(bytes, 4 * i)) != kind {
             return false;
         }
@@ -74,6 +92,20 @@ fn in_order(bytes: &[u8]) -> bool
         i += 1;
     }
     kind == 9
+}
+
+// Whether the kinds of all words are in order: the header's, with the wind or without, and those of whole contacts.
+fn is_ordered(bytes: &[u8]) -> bool
+    ensures { λ r. ⌜ r ≡ Spec.ordered (Spec.words (now (bytes .entry))) ⌝ }
+{
+    let count = bytes.len() / 4;
+    if count < 9 {
+        return false;
+    }
+    if in_order(bytes, 0, 0, 9) {
+        return in_order(bytes, 9, header_length(bytes), count);
+    }
+    false
 }
 
 // Whether a sheet's layout is right: whole words, not too many, their kinds in order.
@@ -85,7 +117,7 @@ pub fn in_layout(bytes: &[u8]) -> bool
         return false;
     }
     if len % 4 == 0 {
-        return in_order(bytes);
+        return is_ordered(bytes);
     }
     false
 }

@@ -69,9 +69,9 @@ use Rattle.clearing.specs.Clearing.{altered, clearing, clears, floorOf, join, p
 use Rattle.traffic.specs.Traffic.{contactsChecks, entryChecks, targetOf}
 use Rattle.choice.specs.Choice.{choice, choiceFor, first, orFirst, sideChoice, trialClears}
 use Rattle.rulings.specs.Ruled.{answered, inBoth, ruled, ruledAnswer, ruledChecks, ruledNumber, sharedSides, sidesOf}
-use Rattle.sheet_words.specs.Word.{inOrder, layout, words}
+use Rattle.sheet_words.specs.Word.{inOrder, layout, ordered, words}
 use Rattle.sheet_record.specs.Record.{contactCount, firstRows, headerOf, readable, rowFrom, rowsOf}
-use Rattle.sheet_values.specs.Values.{categoryOf, entryOf, ownOf, partyOf, vesselOf, visibilityOf}
+use Rattle.sheet_values.specs.Values.{categoryOf, entryOf, ownOf, partyOf, vesselOf, visibilityOf, windFrom}
 use Rattle.sheet_values.specs.Values as values
 use Rattle.sheet.specs.Sheet.{categoryChecks, codeChecks, sheetVerdict, valueChecks}
 use Rattle.lines.specs.Lines.{alterLine, contactLine, refusedLine}
@@ -87,6 +87,13 @@ sampleHeader = 0x0000_0000 ∷ 0x1000_2800 ∷ 0x2000_0000 ∷ 0x3000_0000 ∷ 0
 
 abbrev sampleContact : List ℕ
 sampleContact = 0x9000_0007 ∷ 0xA000_0000 ∷ 0xB000_1000 ∷ 0xC000_0000 ∷ 0xD000_0000 ∷ 0xE000_0000 ∷ []
+
+-- the same header for own craft under sail on the port tack, and another such to starboard that keeps beside her (request R-1)
+abbrev sailingHeader : List ℕ
+sailingHeader = 0x0000_0000 ∷ 0x1000_2800 ∷ 0x2000_0002 ∷ 0x3000_0000 ∷ 0x4000_0400 ∷ 0x5000_0000 ∷ 0x6001_6800 ∷ 0x7000_0400 ∷ 0x8000_0708 ∷ []
+
+abbrev sailingContact : List ℕ
+sailingContact = 0x9000_0001 ∷ 0xA001_6800 ∷ 0xB000_1000 ∷ 0xC000_0000 ∷ 0xD000_2800 ∷ 0xE000_0002 ∷ []
 
 -- what a line says; what is printed on a sheet of words
 abbrev says : List ℕ → String → Row
@@ -204,6 +211,17 @@ table =
     ∷ prints (sampleHeader ++ (0x9000_0007 ∷ [])) "REFUSED 15\n"
     ∷ prints (sampleContact ++ sampleHeader) "REFUSED 15\n"
     ∷ prints (sampleHeader ++ (0x9000_0007 ∷ 0xA000_0000 ∷ 0xB000_1000 ∷ 0xC000_0000 ∷ 0xD000_0000 ∷ 0xE000_0008 ∷ [])) "REFUSED 16\n"
+    -- the wind: power-driven vessels take no notice; on one tack the one to windward keeps clear, from 90 degrees off the line of sight; 360 is refused, after the limits and before the contacts; the word stands at its place, once
+    ∷ prints (sampleHeader ++ (0xF001_6800 ∷ sampleContact)) "CONTACT 7 CLOSING 0.000 1440 DANGEROUS OVERTAKING GIVEWAY 13\nALTER S 15.000 15.000 1.035 7\n"
+    ∷ prints (sampleHeader ++ (0xF000_0000 ∷ [])) "ALTER S 0.000 0.000 FREE NONE\n"
+    ∷ prints (sailingHeader ++ sailingContact) "CONTACT 1 STATIONARY 4.000 - OPENING CROSSING-S UNDETERMINED 12\nALTER S 0.000 0.000 4.000 1\n"
+    ∷ prints (sailingHeader ++ (0xF001_6800 ∷ sailingContact)) "CONTACT 1 STATIONARY 4.000 - OPENING CROSSING-S STANDON 12\nALTER S 0.000 0.000 4.000 1\n"
+    ∷ prints (sailingHeader ++ (0xF000_0000 ∷ sailingContact)) "CONTACT 1 STATIONARY 4.000 - OPENING CROSSING-S STANDON 12\nALTER S 0.000 0.000 4.000 1\n"
+    ∷ prints (sailingHeader ++ (0xF005_9FFF ∷ sailingContact)) "CONTACT 1 STATIONARY 4.000 - OPENING CROSSING-S GIVEWAY 12\nALTER S 0.000 0.000 4.000 1\n"
+    ∷ prints (sailingHeader ++ (0xF005_A000 ∷ sailingContact)) "REFUSED 1\n"
+    ∷ prints (sailingHeader ++ (0xF005_A000 ∷ 0x9000_0001 ∷ 0xA001_6800 ∷ 0xBFFF_FFFF ∷ 0xC000_0000 ∷ 0xD000_2800 ∷ 0xE000_0002 ∷ [])) "REFUSED 1\n"
+    ∷ prints (sampleHeader ++ (0xF001_6800 ∷ 0xF001_6800 ∷ sampleContact)) "REFUSED 15\n"
+    ∷ prints (sampleHeader ++ (sampleContact ++ (0xF001_6800 ∷ []))) "REFUSED 15\n"
     -- lines: seconds are rounded down, the range stands for the closest approach, ties go to even, a carry runs into the whole part
     ∷ says (contactLine 4294967295 (closing 0x3ff1_0000_0000_0000 1949 999999999) Risk.Passing (ruling (Crossing Port) StandOn Rule17)) "CONTACT 4294967295 CLOSING 1.062 1949 PASSING CROSSING-P STANDON 17\n"
     ∷ says (contactLine 0 (Approach.Opening (record { 0 = bits 0x3ff3_0000_0000_0000 })) Risk.Opening (ruling BeingOvertaken StandOn Rule13)) "CONTACT 0 OPENING 1.188 - OPENING BEING-OVERTAKEN STANDON 13\n"
@@ -217,5 +235,5 @@ table =
     ∷ []
 
 pub holds : every table ≡ true
-unfolding abaft abs add along alterLine altered angleSteps answerOn answered approach approachFrom arcsine.arcsineSteps arcsine.arcsineUnits arcsine.atMost arcsine.fitsIn arcsine.rest arcsine.restStep arcsine.scale arcsine.scaleFrom arcsine.upperSteps arctangentSteps asin.asin asin.inDomain aspectOf assessAnswer assessment atSpeed atan2 avoidAnswer avoidChecks avoidanceOf avoided bothFinite bowAnswer bytes categoryChecks categoryOf choice choiceFor choiceOf circular.fromUnits circular.inDomain circular.scaled clamped clearing clears clock closest closingRate codeChecks constraintChecks constraintsAnswer constraintsOn contactCount contactLine contactLines contactsChecks cos cosineDivisors cosineStep cosineUnits courseAnswer courseFor cpaAnswer crossing decided decimalOf degreesPerRadian determinant difference digitsUpTo directionOf distance div driftOf driftPerHour encounterChecks encounterOf entryChecks entryOf eq even factsOf finite first firstRows flatMap floorOf fold folds.turned forwardOfBeam fromHours fromSeconds grazing greatest greatestTo halfFold headerOf heading horner hoursOf hypot hypots.inDomain idAt inBoth inOrder inRange isAccepted isBefore isClosing isDirection isDistance isEffectivelyZero isHeadOn isSpeed isWidth join larger last layout le lineOn linesOn lt manoeuvres.manoeuvre manoeuvres.sideOf manoeuvres.turned mul nanosIn neg negative notAbove notNegative octant ofBits ofInt offered offset orFirst ownComesUp ownOf ownOvertakes party partyChecks partyOf passage permitted placed plotAnswer plotChecks plotVerdict plots.targetOf policyAnswer policyOn portBy17 portBy19 quarters raised rangeRate readable refusedLine relativeMotion relativeOf relativeSpeed relativeVelocity rem removed report resolved rest riskAt round rowFrom rowsOf rule18 ruled ruledAnswer ruledChecks rulingAnswer rulingFor rulingOf scaledBy seedBy seededChoice seededSide sharedSides sheetVerdict sideChoice sideOf sidesOf sin sineDivisors sineStep sineUnits situation situationChecks size solution solved speedOf spelled sqrt square starboardBy19 sub table tally targetComesUp targetOf targetOvertakes thousandthsOf threeDecimals timeOf timeToGo toBits toDegrees toRadians toUnsigned toUsize trial trialClears trials trialsFrom turnedMinus turnedUnits unit unitsOf upTo valueChecks values.scaled velocity verdict vesselOf visibilityOf wholeFold withHeading withRateOfTurn withWindFrom words
+unfolding abaft abs add along alterLine altered angleSteps answerOn answered approach approachFrom arcsine.arcsineSteps arcsine.arcsineUnits arcsine.atMost arcsine.fitsIn arcsine.rest arcsine.restStep arcsine.scale arcsine.scaleFrom arcsine.upperSteps arctangentSteps asin.asin asin.inDomain aspectOf assessAnswer assessment atSpeed atan2 avoidAnswer avoidChecks avoidanceOf avoided bothFinite bowAnswer bytes categoryChecks categoryOf choice choiceFor choiceOf circular.fromUnits circular.inDomain circular.scaled clamped clearing clears clock closest closingRate codeChecks constraintChecks constraintsAnswer constraintsOn contactCount contactLine contactLines contactsChecks cos cosineDivisors cosineStep cosineUnits courseAnswer courseFor cpaAnswer crossing decided decimalOf degreesPerRadian determinant difference digitsUpTo directionOf distance div driftOf driftPerHour encounterChecks encounterOf entryChecks entryOf eq even factsOf finite first firstRows flatMap floorOf fold folds.turned forwardOfBeam fromHours fromSeconds grazing greatest greatestTo halfFold headerOf heading horner hoursOf hypot hypots.inDomain idAt inBoth inOrder inRange isAccepted isBefore isClosing isDirection isDistance isEffectivelyZero isHeadOn isSpeed isWidth join larger last layout le lineOn linesOn lt manoeuvres.manoeuvre manoeuvres.sideOf manoeuvres.turned mul nanosIn neg negative notAbove notNegative octant ofBits ofInt offered offset orFirst ordered ownComesUp ownOf ownOvertakes party partyChecks partyOf passage permitted placed plotAnswer plotChecks plotVerdict plots.targetOf policyAnswer policyOn portBy17 portBy19 quarters raised rangeRate readable refusedLine relativeMotion relativeOf relativeSpeed relativeVelocity rem removed report resolved rest riskAt round rowFrom rowsOf rule18 ruled ruledAnswer ruledChecks rulingAnswer rulingFor rulingOf scaledBy seedBy seededChoice seededSide sharedSides sheetVerdict sideChoice sideOf sidesOf sin sineDivisors sineStep sineUnits situation situationChecks size solution solved speedOf spelled sqrt square starboardBy19 sub table tally targetComesUp targetOf targetOvertakes thousandthsOf threeDecimals timeOf timeToGo toBits toDegrees toRadians toUnsigned toUsize trial trialClears trials trialsFrom turnedMinus turnedUnits unit unitsOf upTo valueChecks values.scaled velocity verdict vesselOf visibilityOf wholeFold windFrom withHeading withRateOfTurn withWindFrom words
 holds = refl

@@ -20,7 +20,7 @@ pub fn distance(word: u64) -> Distance {
     Distance::from_nautical_miles_unchecked(f64::from_bits(word))
 }
 
-fn direction<Origin>(word: u64) -> Direction<Origin> {
+pub fn direction<Origin>(word: u64) -> Direction<Origin> {
     Direction::from_degrees_unchecked(f64::from_bits(word))
 }
 

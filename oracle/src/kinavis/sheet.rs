@@ -1,4 +1,4 @@
-//! Encounter sheets by document 01, 'Encounter sheet and its program': which bytes are a sheet, and the lines that the program prints for
+//! Encounter sheets by document 01, 'Encounter sheet and its program', and request R-1, the wind: which bytes are a sheet, and the lines that the program prints for
 //! any bytes. Approach, risk and ruling are the unchanged Rust's, and the ruled search is the reference that the port's is compared with; what stands here is the sheet's layout, its checks and the lines' words.
 
 use std::time::Duration;
@@ -20,13 +20,16 @@ const CODE: u64 = 16;
 /// The most bytes of a sheet.
 pub const MOST_BYTES: usize = 4096;
 
-/// Words before the contacts', and words of a contact.
+/// Words before the contacts' and the wind's, and words of a contact.
 pub const BASE: usize = 9;
 pub const EACH: usize = 6;
 
 /// The bits of a word that are its value, and of its kind, which is above them.
 pub const VALUE: u32 = (1 << 28) - 1;
 const KIND_SHIFT: u32 = 28;
+
+/// The kind of the word that tells where the wind comes from.
+pub const WIND: u32 = 15;
 
 /// Parts of a degree, a knot and a mile that a value counts.
 pub const PARTS: f64 = 1024.0;
@@ -46,14 +49,15 @@ const CATEGORIES: [VesselCategory; 8] = [
 const VISIBILITIES: [Visibility; 2] = [Visibility::InSight, Visibility::Restricted];
 
 /// The values of a sheet's words, without their kinds: own course and speed, category, visibility, desired, least, most, CPA limit, TCPA
-/// limit; and of each contact id, bearing, range, course, speed, category.
+/// limit; where the wind comes from; and of each contact id, bearing, range, course, speed, category.
 #[derive(Clone)]
 pub struct Values {
     pub base: [u32; BASE],
+    pub wind: Option<u32>,
     pub contacts: Vec<[u32; EACH]>,
 }
 
-/// The kind of the word at a place.
+/// The kind of the word at a place, the wind's left out.
 pub fn kind(place: usize) -> u32 {
     (if place < BASE { place } else { BASE + (place - BASE) % EACH }) as u32
 }
@@ -66,13 +70,19 @@ fn quantity(value: u32) -> f64 {
 impl Values {
     pub fn bytes(&self) -> Vec<u8> {
         let values = self.base.iter().chain(self.contacts.iter().flatten());
-        values.enumerate().flat_map(|(place, value)| (kind(place) << KIND_SHIFT | value).to_le_bytes()).collect()
+        let mut words: Vec<u32> = values.enumerate().map(|(place, value)| kind(place) << KIND_SHIFT | value).collect();
+        if let Some(wind) = self.wind {
+            words.insert(BASE, WIND << KIND_SHIFT | wind);
+        }
+        words.into_iter().flat_map(u32::to_le_bytes).collect()
     }
 
     /// The values of bytes whose layout is right: whole words, not too many, each of the kind of its place, and no group cut short.
     fn of_bytes(bytes: &[u8]) -> Option<Values> {
         let (words, rest) = bytes.as_chunks::<4>();
-        let words: Vec<u32> = words.iter().map(|word| u32::from_le_bytes(*word)).collect();
+        let mut words: Vec<u32> = words.iter().map(|word| u32::from_le_bytes(*word)).collect();
+        let is_wind = words.get(BASE).is_some_and(|word| word >> KIND_SHIFT == WIND);
+        let wind = is_wind.then(|| words.remove(BASE) & VALUE);
         let in_order = words.iter().enumerate().all(|(place, word)| word >> KIND_SHIFT == kind(place));
         if bytes.len() > MOST_BYTES || !rest.is_empty() || !in_order {
             return None;
@@ -80,7 +90,7 @@ impl Values {
         let values: Vec<u32> = words.iter().map(|word| word & VALUE).collect();
         let (base, contacts) = values.split_first_chunk()?;
         let (contacts, rest) = contacts.as_chunks();
-        rest.is_empty().then(|| Values { base: *base, contacts: contacts.to_vec() })
+        rest.is_empty().then(|| Values { base: *base, wind, contacts: contacts.to_vec() })
     }
 
     fn has_unknown_code(&self) -> bool {
@@ -104,6 +114,7 @@ impl Values {
         first_bad([(Direction, own_course), (Knots, own_speed), (Miles, desired)])
             .or_else(|| constraints(SIDES[0], self.limits()).is_err().then_some(CONSTRAINTS))
             .or_else(|| first_bad([(Miles, cpa_limit)]))
+            .or_else(|| first_bad(self.wind.map(|wind| (Direction, quantity(wind)))))
             .or_else(|| first_bad(self.contacts.iter().flat_map(of_contact)))
     }
 
@@ -127,6 +138,7 @@ struct Sheet {
     own: VesselCategory,
     targets: Vec<VesselCategory>,
     visibility: Visibility,
+    wind: Option<f64>,
     limits: Limits,
     policy: CpaPolicy,
 }
@@ -146,6 +158,7 @@ impl Sheet {
             own: CATEGORIES[own as usize],
             targets: values.contacts.iter().map(|[.., category]| CATEGORIES[*category as usize]).collect(),
             visibility: VISIBILITIES[visibility as usize],
+            wind: values.wind.map(quantity),
             limits: values.limits(),
             policy: CpaPolicy::new(cpa_limit, tcpa_limit).expect("an accepted policy"),
         }
@@ -166,6 +179,10 @@ impl Sheet {
             CollisionRisk::Dangerous => "DANGEROUS",
         };
         let situation = Situation::new(Party::new(own, self.own), Party::new(target, category), contact, self.visibility);
+        let situation = match self.wind {
+            Some(from) => situation.with_wind_from(calls::direction(from.to_bits())),
+            None => situation,
+        };
         let ruling = rule_of_the_road(&situation, &ColregsConfig::STANDARD).expect("accepted arguments");
         let encounter = match ruling.encounter() {
             Encounter::Overtaking => "OVERTAKING",
@@ -184,7 +201,7 @@ impl Sheet {
         format!("CONTACT {id} {approach} {distance} {seconds} {risk} {encounter} {responsibility} {rule}\n")
     }
 
-    /// The ruled search: headings and wind are unknown.
+    /// The ruled search: headings are unknown.
     fn search(&self) -> Ruled {
         let party = |category: &VesselCategory| {
             let code = calls::CATEGORIES.iter().position(|c| c == category).expect("a category");
@@ -194,7 +211,7 @@ impl Sheet {
             own: party(&self.own),
             targets: self.targets.iter().map(party).collect(),
             restricted: self.visibility == Visibility::Restricted,
-            wind: None,
+            wind: self.wind,
         };
         ruled(self.limits, &rulings, &self.list)
     }

@@ -18,7 +18,7 @@ returns : tie.Need-returns
 returns c =
     let ruled = c .before in
     let approached = ruled .before in
-    of-row _ _ _ _ _ _ _ _ _ (approached .before .before .before .before .before .entry-of .ensures) (approached .closest-point-of-approach .ensures) (ruled .rule-of-the-road .ensures) (c .put-answers .ensures)
+    of-row _ _ _ _ _ _ _ _ _ _ (approached .before .before .before .before .before .entry-of .ensures) (approached .closest-point-of-approach .ensures) (ruled .rule-of-the-road .ensures) (c .put-answers .ensures)
 
 pub put-row-spec : {M : Type 1} → statement M
 put-row-spec =

@@ -18,14 +18,14 @@ use Rattle.contact_lines.proofs.put_rows.Statement.{statement}
 use Rattle.contact_lines.proofs.put_rows.Tie as tie
 
 abbrev Inv-loop : tie.InvT-loop
-Inv-loop own visibility policy rows count t₀ i₀ t i = (i ≤ count) × (fold (with-piece (lineOn own visibility policy)) (shown t) (slice i count (rows .list)) ≡ fold (with-piece (lineOn own visibility policy)) (shown t₀) (slice 0 count (rows .list)))
+Inv-loop own visibility wind policy rows count t₀ i₀ t i = (i ≤ count) × (fold (with-piece (lineOn own visibility wind policy)) (shown t) (slice i count (rows .list)) ≡ fold (with-piece (lineOn own visibility wind policy)) (shown t₀) (slice 0 count (rows .list)))
 
 abbrev μ-loop : tie.MeasureT-loop
-μ-loop own visibility policy rows count t₀ i₀ t i = count - i
+μ-loop own visibility wind policy rows count t₀ i₀ t i = count - i
 
 -- the rows' list has its room, and no text is longer than its own
-listed : (c : tie.Start Inv-loop μ-loop) → length (c .args .t5 .list) ≡ maxContacts
-listed c = simp length-map at (c .good .1 .1 .1 .1 .0 .1 .1 .1 .0 .1 .0 .1)
+listed : (c : tie.Start Inv-loop μ-loop) → length (c .args .t6 .list) ≡ maxContacts
+listed c = simp length-map at (c .good .1 .1 .1 .1 .1 .0 .1 .1 .1 .0 .1 .0 .1)
 
 full : (c : tie.Start Inv-loop μ-loop) → length (c .args .t0 .bytes) ≡ room
 full c = simp length-map at (c .good .0 .1 .1 .0 .1 .0 .1)
@@ -66,7 +66,7 @@ returns : tie.Need-returns Inv-loop μ-loop
 unfolding rows
 returns c =
     let held = c .before .before in
-    all-joined _ _ _ _ _ _ _ _ (within (held .before)) (held .held .ensures) (listed (held .before)) (fold-done _ _ _ _ _ _ (reached c) (c .before .loop .inv .1))
+    all-joined _ _ _ _ _ _ _ _ _ (within (held .before)) (held .held .ensures) (listed (held .before)) (fold-done _ _ _ _ _ _ (reached c) (c .before .loop .inv .1))
 
 pub put-rows-spec : {M : Type 1} → statement M
 put-rows-spec =

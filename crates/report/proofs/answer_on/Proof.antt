@@ -11,6 +11,9 @@ traffic-of-requires c κs = tt
 visibility-of-requires : tie.Need-visibility-of-requires
 visibility-of-requires c κs = tt
 
+wind-from-requires : tie.Need-wind-from-requires
+wind-from-requires c κs = tt
+
 scaled-requires : tie.Need-scaled-requires
 scaled-requires c κs = tt
 
@@ -20,9 +23,10 @@ ruled-search-requires c κs = tt
 returns : tie.Need-returns
 returns c =
     let scaled = c .before in
-    let seen = scaled .before in
+    let wind = scaled .before in
+    let seen = wind .before in
     let around = seen .before in
-    answered _ _ _ _ _ _ _ _ _ (around .before .own-of .ensures) (around .traffic-of .ensures .0) (around .before .before .pre) (around .traffic-of .ensures .1) (seen .visibility-of .ensures) (scaled .scaled .ensures) (c .ruled-search .ensures .0)
+    answered _ _ _ _ _ _ _ _ _ _ (around .before .own-of .ensures) (around .traffic-of .ensures .0) (around .before .before .pre) (around .traffic-of .ensures .1) (seen .visibility-of .ensures) (wind .wind-from .ensures) (scaled .scaled .ensures) (c .ruled-search .ensures .0)
 
 pub answer-on-spec : {M : Type 1} → statement M
 answer-on-spec =
@@ -31,6 +35,7 @@ answer-on-spec =
     own-of-requires
     traffic-of-requires
     visibility-of-requires
+    wind-from-requires
     scaled-requires
     ruled-search-requires
     returns)

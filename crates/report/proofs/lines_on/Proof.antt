@@ -35,6 +35,9 @@ own-of-requires c κs = tt
 visibility-of-requires : tie.Need-visibility-of-requires
 visibility-of-requires c κs = tt
 
+wind-from-requires : tie.Need-wind-from-requires
+wind-from-requires c κs = tt
+
 blank-requires : tie.Need-blank-requires
 blank-requires c κs = tt
 
@@ -42,7 +45,7 @@ put-rows-requires : tie.Need-put-rows-requires
 put-rows-requires c κs = tt
 
 answer-on-requires : tie.Need-answer-on-requires
-answer-on-requires c κs = c .before .before .before .before .before .before .before .before .before .before .before .before .pre
+answer-on-requires c κs = c .before .before .before .before .before .before .before .before .before .before .before .before .before .pre
 
 put-answer-requires : tie.Need-put-answer-requires
 put-answer-requires c κs = tt
@@ -71,12 +74,13 @@ returns c =
     let answered = c .before in
     let listing = answered .before in
     let blank = listing .before in
-    let seen = blank .before in
+    let windy = blank .before in
+    let seen = windy .before in
     let owned = seen .before in
     let limited = owned .before .before .before .before in
     let held = limited .before .before .before .before in
-    rw (← held .policy-on .ensures, ← limited .constraints-on .ensures, limited .before .before .p .given .1, owned .before .before .c .given .1, ← owned .own-of .ensures, ← seen .visibility-of .ensures, ← answered .answer-on .ensures)
-    (both _ _ _ _ (answered .answer-on .result) _ _ (within (held .before)) (rw (blank .blank .ensures) at (listing .put-rows .ensures)) (c .put-answer .ensures))
+    rw (← held .policy-on .ensures, ← limited .constraints-on .ensures, limited .before .before .p .given .1, owned .before .before .c .given .1, ← owned .own-of .ensures, ← seen .visibility-of .ensures, ← windy .wind-from .ensures, ← answered .answer-on .ensures)
+    (both _ _ _ _ _ (answered .answer-on .result) _ _ (within (held .before)) (rw (blank .blank .ensures) at (listing .put-rows .ensures)) (c .put-answer .ensures))
 
 returns-2 : tie.Need-returns-2
 unfolding linesOn
@@ -102,6 +106,7 @@ lines-on-spec =
     enum-known-c
     own-of-requires
     visibility-of-requires
+    wind-from-requires
     blank-requires
     put-rows-requires
     answer-on-requires

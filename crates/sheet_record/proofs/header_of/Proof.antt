@@ -30,9 +30,12 @@ value-at-requires-8 c κs = tt
 value-at-requires-9 : tie.Need-value-at-requires-9
 value-at-requires-9 c κs = tt
 
+wind-of-requires : tie.Need-wind-of-requires
+wind-of-requires c κs = tt
+
 returns : tie.Need-returns
 unfolding headerOf
-returns c = rw (c .value-at9 .ensures, c .before .value-at8 .ensures, c .before .before .value-at7 .ensures, c .before .before .before .value-at6 .ensures, c .before .before .before .before .value-at5 .ensures, c .before .before .before .before .before .value-at4 .ensures, c .before .before .before .before .before .before .value-at3 .ensures, c .before .before .before .before .before .before .before .value-at2 .ensures, c .before .before .before .before .before .before .before .before .value-at .ensures) refl
+returns c = rw (c .wind-of .ensures, c .before .value-at9 .ensures, c .before .before .value-at8 .ensures, c .before .before .before .value-at7 .ensures, c .before .before .before .before .value-at6 .ensures, c .before .before .before .before .before .value-at5 .ensures, c .before .before .before .before .before .before .value-at4 .ensures, c .before .before .before .before .before .before .before .value-at3 .ensures, c .before .before .before .before .before .before .before .before .value-at2 .ensures, c .before .before .before .before .before .before .before .before .before .value-at .ensures) refl
 
 pub header-of-spec : {M : Type 1} → statement M
 header-of-spec =
@@ -47,4 +50,5 @@ header-of-spec =
     value-at-requires-7
     value-at-requires-8
     value-at-requires-9
+    wind-of-requires
     returns)

@@ -9,38 +9,32 @@ use Rattle.sheet_words.proofs.in_order.Statement.{statement}
 use Rattle.sheet_words.proofs.in_order.Tie as tie
 
 abbrev Inv-loop : tie.InvT-loop
-Inv-loop bytes count kind₀ i₀ kind i = (i ≤ length (words bytes)) × (left bytes kind i ≡ left bytes 0 0)
+Inv-loop bytes first from to kind₀ i₀ kind i = left (words bytes) to kind i ≡ left (words bytes) to first from
 
 abbrev μ-loop : tie.MeasureT-loop
-μ-loop bytes count kind₀ i₀ kind i = count - i
+μ-loop bytes first from to kind₀ i₀ kind i = to - i
 
 -- the word at hand
-within : (c : tie.After-word-from Inv-loop μ-loop) → c .before .before .loop .i < length (words (c .before .before .before .before .args .bytes .now))
-within c = subst (λ n. c .before .before .loop .i < n) (sym (count (c .before .before .before .before .args .bytes .now))) (c .before .loop-test .taken)
+inside : (c : tie.In-loop Inv-loop μ-loop) → 4 * c .before .loop .i + 4 ≤ length (c .before .before .before .args .bytes .now)
+inside c = omega (arith, c .loop-test .taken, c .before .before .before .pre, count (c .before .before .before .args .bytes .now))
 
 word-is : (c : tie.After-word-from Inv-loop μ-loop) → c .word-from .result ≡ getD (words (c .before .before .before .before .args .bytes .now)) (c .before .before .loop .i) 0
-word-is c = c .word-from .ensures ∙ at-place _ _ (inside c)
-  where
-    inside : (c : tie.After-word-from Inv-loop μ-loop) → 4 * c .before .before .loop .i + 4 ≤ length (c .before .before .before .before .args .bytes .now)
-    inside c = omega (arith, c .before .loop-test .taken)
-
-reached : (c : tie.After-loop Inv-loop μ-loop) → c .before .loop .i ≡ length (words (c .before .before .before .args .bytes .now))
-reached c = omega (arith, c .loop-test .left, c .before .loop .inv .0, count (c .before .before .before .args .bytes .now))
+word-is c = c .word-from .ensures ∙ at-place _ _ (inside (c .before))
 
 loop-holds : tie.Need-loop-holds Inv-loop μ-loop
-loop-holds c = (omega arith, refl)
+loop-holds c = refl
 
 mul-word-from : tie.Need-mul-word-from Inv-loop μ-loop
-mul-word-from c = record { fits = omega (arith, c .loop-test .taken) }
+mul-word-from c = record { fits = omega (arith, inside c) }
 
 word-from-requires : tie.Need-word-from-requires Inv-loop μ-loop
-word-from-requires c κs = omega (arith, c .loop-test .taken)
+word-from-requires c κs = inside c
 
 kind-of-requires : tie.Need-kind-of-requires Inv-loop μ-loop
 kind-of-requires c κs = tt
 
 returns : tie.Need-returns Inv-loop μ-loop
-returns c = wrong _ _ (within (c .before .before)) _ _ _ (word-is (c .before .before)) (c .before .kind-of .ensures) (c .if1 .taken) ∙ c .before .before .before .before .loop .inv .1
+returns c = wrong _ _ _ (c .before .before .before .loop-test .taken) (c .before .before .before .before .before .before .pre) _ _ _ (word-is (c .before .before)) (c .before .kind-of .ensures) (c .if1 .taken) ∙ c .before .before .before .before .loop .inv
 
 next-kind-requires : tie.Need-next-kind-requires Inv-loop μ-loop
 next-kind-requires c κs = tt
@@ -52,10 +46,10 @@ loop-less : tie.Need-loop-less Inv-loop μ-loop
 loop-less c = search needs
 
 loop-again : tie.Need-loop-again Inv-loop μ-loop
-loop-again c = (omega (arith, within (c .before .before .before)), goes-on _ _ (within (c .before .before .before)) _ _ _ _ (word-is (c .before .before .before)) (c .before .before .kind-of .ensures) (c .before .if1 .left) (c .next-kind .ensures) ∙ c .before .before .before .before .before .loop .inv .1)
+loop-again c = goes-on _ _ _ (c .before .before .before .before .loop-test .taken) (c .before .before .before .before .before .before .before .pre) _ _ _ _ (word-is (c .before .before .before)) (c .before .before .kind-of .ensures) (c .before .if1 .left) (c .next-kind .ensures) ∙ c .before .before .before .before .before .loop .inv
 
 returns-2 : tie.Need-returns-2 Inv-loop μ-loop
-returns-2 c = ends _ _ _ (reached c) ∙ c .before .loop .inv .1
+returns-2 c = ends _ _ _ _ (c .loop-test .left) ∙ c .before .loop .inv
 
 pub in-order-spec : {M : Type 1} → statement M
 in-order-spec =
