@@ -1,9 +1,9 @@
 """Makes single faults in the crates' code and lists those that are still proved.
 
-    python3 sweep/mutants.py [N]
+    python3 sweep/mutants.py [N [CRATE...]]
     python3 sweep/mutants.py program
 
-Copies the repository to target/sweep, puts N faults (default 240) there as must-fail edits, spread over all crates with code, and runs
+Copies the repository to target/sweep, puts N faults (default 240) there as must-fail edits, spread over all crates with code or the named ones, and runs
 `rt must-fail`. A fault is one of: a comparison made strict, made weak or turned round; the operands of a difference or a quotient
 swapped; a constant one more; a statement dropped; two cases swapped; `&` for `|`; true for false. The choice is fixed, so that a run can be
 repeated. A fault that the compiler does not take is not counted. Survivors are printed with their line. Each must be shown to change no
@@ -111,9 +111,8 @@ def faults(crate):
                 yield path.relative_to(ROOT / "crates" / crate), at + 1, line, new, kind, second
 
 
-def chosen(count):
+def chosen(count, crates):
     """Faults from each crate in turn, in a fixed order."""
-    crates = [c.name for c in sorted((ROOT / "crates").iterdir()) if (c / "src").is_dir() and not (c / "src" / "main.rt").exists()]
     pools = {}
     for crate in crates:
         pool = list(faults(crate))
@@ -176,15 +175,16 @@ def main():
     if sys.argv[1:] == ["program"]:
         program()
     count = int(sys.argv[1]) if len(sys.argv) > 1 else 240
+    libraries = [c.name for c in sorted((ROOT / "crates").iterdir()) if (c / "src").is_dir() and not (c / "src" / "main.rt").exists()]
     copied()
     named = {}
-    for i, (crate, (file, number, old, new, kind, second)) in enumerate(chosen(count)):
+    for i, (crate, (file, number, old, new, kind, second)) in enumerate(chosen(count, sys.argv[2:] or libraries)):
         folder = COPY / "crates" / crate / "must-fail"
         folder.mkdir(exist_ok=True)
         pairs = f"old: {old}\nnew: {new}\n" + (f"old: {second[0]}\nnew: {second[1]}\n" if second else "")
         (folder / f"m{i:04}.edit").write_text(f"file: {file}\n{pairs}")
         named[f"{crate}/m{i:04}"] = (f"crates/{crate}/{file}", number, kind, old.strip(), new.strip())
-    run = subprocess.run(["rt", "must-fail"], cwd=COPY, capture_output=True, text=True)
+    run = subprocess.run(["rt", "must-fail", *sys.argv[2:]], cwd=COPY, capture_output=True, text=True)
     refused = re.findall(r"must-fail (\S+): refused", run.stdout)
     survived = re.findall(r"must-fail (\S+): NOT REFUSED", run.stdout)
     unbuilt = re.findall(r"must-fail (\S+): BAD EDIT", run.stdout)

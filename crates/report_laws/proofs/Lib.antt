@@ -2,3 +2,4 @@
 pub mod Accepted
 pub mod Answered
 pub mod Reports
+pub mod Before

@@ -1,4 +1,5 @@
--- When a sheet is refused, its round trip, and sheets without the wind.
+-- When a sheet is refused, which values are accepted, its round trip, and reading without the wind.
 pub mod Exactly
-pub mod AsBefore
+pub mod Before
+pub mod Limits
 pub mod RoundTrip
