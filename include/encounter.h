@@ -16,7 +16,8 @@ extern "C" {
 #define ENCOUNTER_REPORT_ROOM 4232
 
 /* Writes what the program `encounter` prints for the sheet to the start of `out`, and returns how many bytes that are, at least one. If
- * `out` has no room for all of it, writes nothing and returns 0. Any bytes may be handed in: what is no sheet is answered with its refusal.
+ * `out` has no room for all of it, writes nothing and returns 0. Any bytes may be handed in: what is no sheet is answered with its refusal. The
+ * sheet's words and the lines are described in docs/SHEET.md.
  * `sheet` and `out` must not overlap. A pointer may be null where its length is 0. Nothing is kept between calls.
  *
  * The text is not ended by a zero byte.
