@@ -12,7 +12,7 @@ use lib.Ieee.Bits.{is-true}
 use lib.Ieee.Fits.{round-fits, and-i, and-l, and-r}
 use lib.Ieee.Scale.{finite}
 use Rattle.laws.specs.Units.{Units, sign, unitsOf}
-use Rattle.laws.proofs.Bools.{holds, fails, test-of-le}
+use Rattle.laws.proofs.Bools.{holds, fails, and-false, test-of-le}
 use Rattle.laws.proofs.Compare.{lt-units-signed, le-units}
 use Rattle.laws.proofs.Exact.{finite-of-value, value-units, round-power}
 use Rattle.laws.proofs.Numbers.{sub-add}
@@ -184,8 +184,4 @@ answer-inside x y n u h k e f g = rw (at-least x h k, h, k) (g ∙ ap (λ u. rou
 
 pub answer-above : (x : Float) → le x one ≡ false → nan ≡ asin x
 unfolding asin inDomain
-answer-above x k = rw (k, ends (le zero x)) refl
-  where
-    ends : (b : Bool) → b && false ≡ false
-    ends true = refl
-    ends false = refl
+answer-above x k = rw (k, and-false (le zero x)) refl

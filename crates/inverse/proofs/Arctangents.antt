@@ -13,7 +13,7 @@ use lib.Ieee.Exact.{HasValue}
 use lib.Ieee.Fits.{round-fits, and-l, and-r, eq→eqb}
 use lib.Ieee.Scale.{finite}
 use Rattle.laws.specs.Units.{Units, sign, unitsOf}
-use Rattle.laws.proofs.Bools.{holds, fails, refuted}
+use Rattle.laws.proofs.Bools.{holds, fails, refuted, and-false}
 use Rattle.laws.proofs.Compare.{lt-units, lt-units-signed, eq-units}
 use Rattle.laws.proofs.Exact.{finite-of-value, value-units, round-power, mul-power}
 use Rattle.laws.proofs.Pattern.{pattern-lt, normal-units, subnormal-units}
@@ -320,11 +320,7 @@ answer-finite y x r a b fy fx t ey ex hy hx ea eb et er = rw (sym ey ∙ hy, sym
 
 pub answer-no-x : (y x : Float) (fx : Bool) → fx ≡ finite x → fx ≡ false → nan ≡ atan2 y x
 unfolding atan2 bothFinite
-answer-no-x y x fx e h = rw (sym e ∙ h, ends (finite y)) refl
-  where
-    ends : (b : Bool) → b && false ≡ false
-    ends true = refl
-    ends false = refl
+answer-no-x y x fx e h = rw (sym e ∙ h, and-false (finite y)) refl
 
 pub answer-no-y : (y x : Float) (fy : Bool) → fy ≡ finite y → fy ≡ false → nan ≡ atan2 y x
 unfolding atan2 bothFinite

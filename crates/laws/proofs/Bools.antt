@@ -43,6 +43,10 @@ pub and-true : (b : Bool) → b && true ≡ b
 and-true true = refl
 and-true false = refl
 
+pub and-false : (b : Bool) → b && false ≡ false
+and-false true = refl
+and-false false = refl
+
 -- `<=` of two numbers, as the order of floats tests it
 pub le-of-test : (a b : ℕ) → T (ltb a b || eqb a b) → a ≤ b
 le-of-test a b = or-elim (ltb a b) (eqb a b) (λ t. le-of-lt (ltb→lt a b t)) (λ t. le-of-eq (eqb→eq a b t))

@@ -1,6 +1,6 @@
 -- A sheet without the wind prints as it did before a sheet could tell it, and one with it was refused with 15.
 use mathlib.Core.Path.{_≡_, refl, ap, _∙_}
-use mathlib.Core.Bool.{true, false}
+use mathlib.Core.Bool.{true}
 use mathlib.Core.List.{List}
 use Prim.Native.Nat.{ℕ}
 use Rattle.elementary.specs.declared.error.Refusal.the-variants as Why
@@ -12,7 +12,6 @@ use Rattle.sheet_words.specs.Word.{words, hasWind}
 use Rattle.sheet_record.specs.declared.Row.{Row}
 use Rattle.sheet_record.specs.Record as Record
 use Rattle.sheet_values.specs.Values.{windFrom}
-use Rattle.sheet.specs.Sheet as Sheet
 use Rattle.lines.specs.Lines.{refusedLine}
 use Rattle.report.specs.Report.{policyOn, constraintsOn, byVerdict}
 use Rattle.report.specs.Report as Report

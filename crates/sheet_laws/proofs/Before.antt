@@ -2,13 +2,13 @@
 use mathlib.Core.Path.{_≡_, refl, sym, ap, _∙_}
 use mathlib.Core.Bool.{Bool, true, false, _&&_, cond}
 use mathlib.Core.List.{List, [], _∷_, _++_, map}
-use Prim.Native.Nat.{ℕ, zero, suc, _+_, _-_, _*_, _/_, _%_, _<_, min}
+use Prim.Native.Nat.{ℕ, zero, suc, _+_, _-_, _*_, _/_, _%_, min}
 use native.Mathlib.Omega.{arith}
 use lib.Dec.{eqb, leb}
 use lib.ListN.{length, take, drop, getD}
 use lib.Seq.{getD-drop}
 use borrow.Author.Tests.{eqb-true, ne-eqb, lt-ltb}
-use Rattle.laws.proofs.Bools.{and-true}
+use Rattle.laws.proofs.Bools.{and-true, and-false}
 use Rattle.elementary.specs.declared.error.Refusal.the-variants as Why
 use Rattle.arguments.specs.declared.Verdict.{Verdict}
 use Rattle.arguments.specs.declared.Verdict.the-variants as Verdict
@@ -27,7 +27,7 @@ use Rattle.sheet_record.specs.Record as Record
 use Rattle.sheet_values.specs.Values.{windFrom, entryOf}
 use Rattle.sheet.specs.Sheet.{codeChecks, byLayout}
 use Rattle.sheet.specs.Sheet as Sheet
-use Rattle.sheet_laws.specs.Before.{layout, contactCount, readable, headerOf, firstRows, rowsOf, valueChecks, sheetVerdict, ReadsAsBefore, Extends}
+use Rattle.sheet_laws.specs.Before.{layout, contactCount, readable, headerOf, firstRows, rowsOf, valueChecks, sheetVerdict, Extends}
 
 -- the kinds up to 8, then those of the contacts, are all kinds in order
 in-two : (n k : ℕ) (ws : List ℕ) → k + n ≡ 9 → inOrder k (take n ws) && inOrder 9 (drop n ws) ≡ inOrder k ws
@@ -112,10 +112,6 @@ module _ (s : List ℕ) (none : hasWind (words s) ≡ false) where
       by h rs = verdict (codeChecks h rs ++ Sheet.valueChecks h (map entryOf rs)) Verdict.Accepted
 
 -- ---- with it
-and-false : (b : Bool) → b && false ≡ false
-and-false true = refl
-and-false false = refl
-
 -- a contact does not begin with kind F
 no-contact : (ws : List ℕ) → kind (getD ws 0 0) ≡ 15 → inOrder 9 ws ≡ false
 unfolding inOrder

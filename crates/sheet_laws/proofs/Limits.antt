@@ -1,11 +1,11 @@
 -- Which values of 28 bits are accepted: a value is exactly so many 1/1024, and so compares with a limit as whole numbers do.
 use mathlib.Core.Path.{_≡_, refl, ap, _∙_}
-use mathlib.Core.Bool.{Bool, true, false, _&&_, _||_}
+use mathlib.Core.Bool.{true, false, _&&_, _||_}
 use mathlib.Core.List.{[], _∷_}
-use Prim.Native.Nat.{ℕ, _*_, _^_, _≤_, _<_}
-use native.Mathlib.Nat.{mul-one, zero-mul}
+use Prim.Native.Nat.{ℕ, _*_, _^_, _<_}
+use native.Mathlib.Nat.{mul-one}
 use native.Mathlib.Omega.{arith}
-use lib.Dec.{T, ltb, leb, eqb, lit<, leb→le, le→leb}
+use lib.Dec.{ltb, leb, eqb, lit<, leb→le, le→leb}
 use lib.Ieee.{Float, lt, le, ofBits}
 use lib.Ieee.Exact.{HasValue}
 use Rattle.laws.proofs.Bools.{same-test, and-true, le-of-test, test-of-le}

@@ -9,6 +9,7 @@ use lib.Dec.{eqb, leb}
 use lib.ListN.{length, getD, take, drop, length-take, length-drop, drop-of-length-le, List·getD-eq-default}
 use lib.Seq.{getD-drop, slice, slice-cons, take-all}
 use borrow.Author.Tests.{eq-eqb, ne-eqb, lt-ltb, le-leb, lt-leb}
+use Rattle.laws.proofs.Bools.{and-false}
 use Rattle.sheet_words.specs.Word.{words, wordFrom, kind, nextKind, inOrder, hasWind, headerLength, ordered, maxBytes, layout}
 
 -- ---- the words by their place
@@ -100,14 +101,10 @@ module _ (ws : List ℕ) (to : ℕ) where
 pub short : (k : ℕ) (ws : List ℕ) → k + length ws < 9 → inOrder k ws ≡ false
 unfolding inOrder
 short k [] h = ne-eqb k 9 (λ e. omega (arith, e))
-short k (w ∷ ws) h = ap (λ n. eqb (kind w) k && inOrder n ws) next ∙ ap (λ b. eqb (kind w) k && b) (short (k + 1) ws (omega (arith, h))) ∙ never (eqb (kind w) k)
+short k (w ∷ ws) h = ap (λ n. eqb (kind w) k && inOrder n ws) next ∙ ap (λ b. eqb (kind w) k && b) (short (k + 1) ws (omega (arith, h))) ∙ and-false (eqb (kind w) k)
   where
     next : nextKind k ≡ k + 1
     next = ap (λ b. cond b (k + 1) 9) (lt-ltb k 14 (omega (arith, h)))
-
-    never : (b : Bool) → b && false ≡ false
-    never true = refl
-    never false = refl
 
 module _ (ws : List ℕ) where
   pub too-few : length ws < 9 → false ≡ ordered ws
