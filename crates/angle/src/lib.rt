@@ -1,5 +1,7 @@
 // Directions and differences of directions, in degrees (document 01, the leaf helpers). Each function takes any f64; what is
 // not finite gives NaN.
+#![tactic(auto)]
+
 ghost use Rattle.std.specs.Prelude.{◌≡◌};
 ghost use Rattle.angle.specs.Fold as Fold;
 

@@ -3,6 +3,8 @@
 // Each is the last step of a grid up to a quarter pi that passes a test. The tests are the three cases of `Goal`; one search
 // serves them all. It starts from a guess in f64 operations, on which nothing rests but the speed: a step that `settled`
 // accepts is the one that the definition names, whatever the guess was, and where it accepts none the grid is halved.
+#![tactic(auto)]
+
 mod guess;
 
 ghost use Rattle.std.specs.Prelude.{◌≡◌, true, ◌*◌, ◌/◌, ◌^◌, ◌≤◌, ◌<◌};
@@ -27,7 +29,7 @@ const STEP: u64 = 562949953421312;
 const HALF_PI: u64 = 7074237752028440;
 
 // What is searched for: the last step of the grid ...
-#[derive(Drop)]
+#[derive(Clone, Copy)]
 enum Goal {
     // ... whose sine is at most x units,
     Sine(u64),

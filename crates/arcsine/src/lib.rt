@@ -1,5 +1,7 @@
 // Arcsine of f64s by whole numbers: the crate `arcs` finds the angle, and this one puts the answer together, which is exact. What is
 // proved of the answers: specs/Asin.
+#![tactic(auto)]
+
 ghost use Rattle.std.specs.Prelude.{◌≡◌, ◌*◌, ◌/◌, ◌^◌, ◌<◌, false, T};
 ghost use Rattle.std.specs.Float.{binary64};
 ghost use Rattle.std.specs.Float.Ieee.{round};

@@ -1,4 +1,6 @@
 // The checks of arguments, in document 01's order.
+#![tactic(auto)]
+
 ghost use Rattle.std.specs.Prelude.{◌≡◌, cond};
 ghost use Rattle.arguments.specs.Check as Spec;
 
@@ -7,7 +9,7 @@ use motion::units::{Direction, Distance, Speed};
 use motion::vessel::{Contact, Vessel};
 
 // What the checks say of the arguments.
-#[derive(Drop)]
+#[derive(Clone, Copy)]
 pub enum Verdict {
     Accepted,
     Refused(Refusal),

@@ -13,19 +13,19 @@ use risk::{CollisionRisk, PerhapsCpa, PerhapsDistance};
 use time::Duration;
 
 // What an assessment lacks where the range does not close: the time and the bearing of the closest approach.
-#[derive(Drop)]
+#[derive(Clone, Copy)]
 pub enum PerhapsTime {
     Nothing,
     Of(Duration),
 }
 
-#[derive(Drop)]
+#[derive(Clone, Copy)]
 pub enum PerhapsBearing {
     Nothing,
     Of(Direction),
 }
 
-#[derive(Drop)]
+#[derive(Clone, Copy)]
 pub struct CollisionAssessment {
     range: Distance,
     bearing: Direction,
@@ -37,7 +37,7 @@ pub struct CollisionAssessment {
     risk: CollisionRisk,
 }
 
-#[derive(Drop)]
+#[derive(Clone, Copy)]
 pub enum AssessAnswer {
     Of(CollisionAssessment),
     Refused(Refusal),

@@ -1,5 +1,7 @@
 // The avoidance of one contact: the smallest permitted alteration that opens it to the distance that is wanted (avoidance.rs, `avoid`). A
 // side's exact course is tried first, then its trial list (`seeds`); specs/Avoid.antt has the definition.
+#![tactic(auto)]
+
 ghost use Rattle.std.specs.Prelude.{◌≡◌};
 ghost use Rattle.avoid.specs.Avoid as Spec;
 
@@ -13,7 +15,7 @@ use motion::vessel::{Contact, Vessel};
 use passages::Target;
 use seeds::{courses_in, seeded_choice};
 
-#[derive(Drop)]
+#[derive(Clone, Copy)]
 pub enum ManoeuvreAnswer {
     Of(AvoidanceManoeuvre),
     Refused(Refusal),

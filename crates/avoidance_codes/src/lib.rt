@@ -1,4 +1,6 @@
 // Arguments of the C exports of avoidance: constraints from codes and floats, and traffic from a list of floats.
+#![tactic(auto)]
+
 ghost use Rattle.std.specs.Prelude.{◌≡◌, ◌<◌};
 ghost use Rattle.traffic.specs.Traffic as Around;
 ghost use Rattle.avoidance_codes.specs.Codes as Spec;

@@ -1,4 +1,6 @@
 // The parts of a manoeuvre as words, for the C exports of avoidance: the side, the limiting contact, and the nine words of an answer.
+#![tactic(auto)]
+
 ghost use Rattle.std.specs.Prelude.{◌≡◌};
 ghost use Rattle.avoidance_words.specs.Words as Spec;
 

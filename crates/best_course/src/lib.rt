@@ -1,15 +1,17 @@
 // The best course of each side among those that are offered.
+#![tactic(auto)]
+
 ghost use Rattle.std.specs.Prelude.{◌≡◌};
 ghost use Rattle.best_course.specs.Offers as Spec;
 
 // The best course so far on a side: by how much it alters, and the course.
-#[derive(Drop)]
+#[derive(Clone, Copy)]
 pub enum Best {
     Nothing,
     By(f64, f64),
 }
 
-#[derive(Drop)]
+#[derive(Clone, Copy)]
 pub struct Choice {
     pub starboard: Best,
     pub port: Best,

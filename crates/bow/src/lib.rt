@@ -1,5 +1,7 @@
 // The range ahead at which a contact crosses own track, from relative_motion.rs. Arguments outside the ranges of document 01 are
 // refused by its numbers, in its order. The definitions in specs/ follow the Rust operation by operation.
+#![tactic(auto)]
+
 ghost use Rattle.std.specs.Prelude.{◌≡◌};
 ghost use Rattle.bow.specs.Bow as Spec;
 
@@ -15,7 +17,7 @@ const PARALLEL: f64 = 1e-12;
 // How far astern, in parts of the range, still counts as over own craft.
 const TOLERANCE: f64 = 1e-9;
 
-#[derive(Drop)]
+#[derive(Clone, Copy)]
 pub enum BowAnswer {
     Of(Distance),
     Refused(Refusal),

@@ -2,6 +2,8 @@
 //
 // The trials of both sides are tried together, by their magnitude and starboard first, so that the first one that clears is the answer;
 // proofs/Smallest.antt says that this is document 01's choice: the first that clears on each side, the smaller of the two, starboard on equality.
+#![tactic(auto)]
+
 ghost use Rattle.std.specs.Prelude.{◌≡◌};
 ghost use Rattle.clearing.specs.Clearing as Clearing;
 ghost use Rattle.choice.specs.Choice as Spec;
@@ -12,21 +14,21 @@ use motion::units::{Angle, Direction};
 use motion::vessel::Vessel;
 
 // The sides to which own craft may alter.
-#[derive(Drop)]
+#[derive(Clone, Copy)]
 pub struct Sides {
     pub starboard: bool,
     pub port: bool,
 }
 
 // A trial that clears: the list that held it, its magnitude, and how the traffic passes.
-#[derive(Drop)]
+#[derive(Clone, Copy)]
 pub struct Chosen {
     pub side: Side,
     pub magnitude: Angle,
     pub passing: Passing,
 }
 
-#[derive(Drop)]
+#[derive(Clone, Copy)]
 pub enum Choice {
     Nothing,
     Of(Chosen),

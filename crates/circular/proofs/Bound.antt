@@ -280,10 +280,12 @@ sine_is x t = record { inside = λ d. go (lt (abs x) tiny) refl (in_domain x) re
         tiny-value : Value (sine_of x) x
         tiny-value = record { held = t; number = k.0; most = le_trans (le_of_lt k.1) (lit≤ tt); within = subst (λ s. Close (2 ^ 1074) s (units_of x) (negated (sign x) (reduced 0 (units_of x) (2 ^ 1074))) (2 ^ 1026)) (unlike_false (sign x)) (negated_close (sign x) false (2 ^ 1074) (units_of x) (reduced 0 (units_of x) (2 ^ 1074)) (2 ^ 1026) (tiny_close (units_of x) k.1)) }
     go false e true f d = let w = close_units 0 x t (holds f) in from_units_lem _ _ _ w.0 (negated_close (sign x) (turned_minus 0 (scaled x)) one (turned_units 0 (scaled x)) (reduced 0 (units_of x) (2 ^ 1074)) 23 w.1)
+    go false e false f d = elim d [ ]
 
     none : (b : Bool) → lt (abs x) tiny ≡ b → (c : Bool) → in_domain x ≡ c → T (not c) → cond b x (cond c answer nan) ≡ nan
     none true e c f d = absurd (subst (λ b. T (not b)) (sym f ∙ is_true (in_domain x) (tiny_inside x e)) d)
     none false e false f d = refl
+    none false e true f d = elim d [ ]
 
 -- ---- the cosine
 pub cosine_is : (x : Float) → T (fits binary64 x) → IsCosine x (cos x)
@@ -295,9 +297,11 @@ cosine_is x t = record { inside = λ d. go (in_domain x) refl d; outside = λ d.
 
     go : (c : Bool) → in_domain x ≡ c → T c → Value (cosine_of x) (cond c answer nan)
     go true f d = let w = close_units 1 x t (holds f) in from_units_lem _ _ _ w.0 w.1
+    go false f d = elim d [ ]
 
     none : (c : Bool) → T (not c) → cond c answer nan ≡ nan
     none false d = refl
+    none true d = elim d [ ]
 
 -- ---- the multiple of half pi that is removed is the nearest
 pub nearest-removed : (x : Float) → T (fits binary64 x) → T (in_domain x) → NearestMultiple (units_of x) (2 ^ 1074) (quarters (scaled x) one)

@@ -2,6 +2,8 @@
 //
 // The angle is taken in units of 2^-58, the nearest multiple of half pi is removed, and the sine or the cosine of the rest,
 // a sum of the crate `series`, is rounded to a multiple of 2^-53. Every answer is within 2^-48 of the exact sum: proofs/Bound.
+#![tactic(auto)]
+
 ghost use Rattle.std.specs.Prelude.{◌≡◌, ◌^◌, ◌≤◌, false, T};
 ghost use Rattle.laws.specs.Units as Size;
 ghost use Rattle.series.specs.Angle as Angle;

@@ -5,6 +5,8 @@
 // the plain definition, by `closest_point_of_approach`, and beside it what is computed here.
 // Most courses of a search are blocked, and one contact that blocks is enough. So the suspects come first, of which a product tells, without a root
 // or a division, that they may close under the distance. A contact blocks only if it is worked out to; where no suspect does, all are worked out.
+#![tactic(auto)]
+
 ghost use Rattle.std.specs.Prelude.{◌≡◌, true};
 ghost use Rattle.clearing.specs.declared.Clearance.TheVariants.{No};
 ghost use Rattle.clearing.specs.Clearing as Spec;
@@ -20,28 +22,28 @@ use room::MAX_CONTACTS;
 const DOUBT: f64 = 1.000001;
 
 // The first `count` of the list.
-#[derive(Drop)]
+#[derive(Clone, Copy)]
 pub struct Scene {
     pub count: usize,
     pub list: [Moving; MAX_CONTACTS],
 }
 
 // The least passing distance, and whose it is.
-#[derive(Drop)]
+#[derive(Clone, Copy)]
 pub struct Passing {
     pub distance: Distance,
     pub limiting: Limiting,
 }
 
 // What the contacts so far come to: one blocks the course; there are none; the first that passes closest.
-#[derive(Drop)]
+#[derive(Clone, Copy)]
 pub enum Tally {
     Stopped,
     Free,
     Least(Passing),
 }
 
-#[derive(Drop)]
+#[derive(Clone, Copy)]
 pub enum Clearance {
     No,
     Yes(Passing),

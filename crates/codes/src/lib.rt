@@ -1,4 +1,6 @@
 // Arguments of the C exports that are codes and lists of floats, and answers that are lists of words.
+#![tactic(auto)]
+
 ghost use Rattle.std.specs.Prelude.{◌≡◌, get_or};
 ghost use Rattle.codes.specs.Codes as Spec;
 

@@ -4,13 +4,13 @@ ghost use Rattle.colregs.specs.Ruling as Spec;
 
 use elementary::error::Refusal;
 
-#[derive(Drop)]
+#[derive(Clone, Copy)]
 pub enum Side {
     Port,
     Starboard,
 }
 
-#[derive(Drop)]
+#[derive(Clone, Copy)]
 pub enum Encounter {
     Overtaking,
     BeingOvertaken,
@@ -18,7 +18,7 @@ pub enum Encounter {
     Crossing { target_on: Side },
 }
 
-#[derive(Drop)]
+#[derive(Clone, Copy)]
 pub enum Responsibility {
     GiveWay,
     StandOn,
@@ -26,7 +26,7 @@ pub enum Responsibility {
     Undetermined,
 }
 
-#[derive(Drop)]
+#[derive(Clone, Copy)]
 pub enum Rule {
     Rule12,
     Rule13,
@@ -38,13 +38,13 @@ pub enum Rule {
 }
 
 // Own craft's duty, and the rule that decides it.
-#[derive(Drop)]
+#[derive(Clone, Copy)]
 pub struct Decision {
     pub responsibility: Responsibility,
     pub rule: Rule,
 }
 
-#[derive(Drop)]
+#[derive(Clone, Copy)]
 pub struct PermittedManoeuvre {
     pub starboard: bool,
     pub port: bool,
@@ -52,7 +52,7 @@ pub struct PermittedManoeuvre {
     pub hold: bool,
 }
 
-#[derive(Drop)]
+#[derive(Clone, Copy)]
 pub struct Ruling {
     pub encounter: Encounter,
     pub responsibility: Responsibility,
@@ -60,7 +60,7 @@ pub struct Ruling {
     pub manoeuvre: PermittedManoeuvre,
 }
 
-#[derive(Drop)]
+#[derive(Clone, Copy)]
 pub enum RulingAnswer {
     Of(Ruling),
     Refused(Refusal),

@@ -1,5 +1,7 @@
 // What a manoeuvre may be: permitted sides, the least and the most alteration, the rate of turn, and their checks. The port of avoidance.rs's
 // `PermittedSides` and `ManoeuvreConstraints`.
+#![tactic(auto)]
+
 ghost use Rattle.std.specs.Prelude.{◌≡◌};
 ghost use Rattle.arguments.specs.Check as Check;
 ghost use Rattle.constraints.specs.Constraints as Spec;
@@ -16,20 +18,20 @@ const SLOWEST: f64 = 2.2250738585072014e-308;
 
 const FASTEST: f64 = 1.7976931348623157e308;
 
-#[derive(Drop)]
+#[derive(Clone, Copy)]
 pub enum PermittedSides {
     Either,
     Starboard,
     Port,
 }
 
-#[derive(Drop)]
+#[derive(Clone, Copy)]
 pub enum PerhapsRate {
     Nothing,
     Of(RateOfTurn),
 }
 
-#[derive(Drop)]
+#[derive(Clone, Copy)]
 pub struct ManoeuvreConstraints {
     sides: PermittedSides,
     least_alteration: Angle,
@@ -37,7 +39,7 @@ pub struct ManoeuvreConstraints {
     rate_of_turn: PerhapsRate,
 }
 
-#[derive(Drop)]
+#[derive(Clone, Copy)]
 pub enum ConstraintsAnswer {
     Of(ManoeuvreConstraints),
     Refused(Refusal),

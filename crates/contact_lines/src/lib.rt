@@ -1,4 +1,6 @@
 // The lines on a sheet's contacts: of each what `closest_point_of_approach`, the assessment and `rule_of_the_road` say of it.
+#![tactic(auto)]
+
 ghost use Rattle.std.specs.Prelude.{◌≡◌};
 ghost use Rattle.text.specs.Text.{shown, appended};
 ghost use Rattle.sheet_record.specs.Record as Record;

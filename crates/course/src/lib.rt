@@ -1,4 +1,6 @@
 // The courses, at own speed, that bring a contact to a wanted distance at its closest.
+#![tactic(auto)]
+
 ghost use Rattle.std.specs.Prelude.{◌≡◌};
 ghost use Rattle.course.specs.Course as Spec;
 
@@ -10,20 +12,20 @@ use motion::vessel;
 use motion::vessel::{Components, Contact, Vessel};
 
 // A course to alter to, if there is one.
-#[derive(Drop)]
+#[derive(Clone, Copy)]
 pub enum Alteration {
     Nothing,
     To(Direction),
 }
 
 // The smallest alteration to either side.
-#[derive(Drop)]
+#[derive(Clone, Copy)]
 pub struct Avoidance {
     pub starboard: Alteration,
     pub port: Alteration,
 }
 
-#[derive(Drop)]
+#[derive(Clone, Copy)]
 pub enum CourseAnswer {
     Of(Avoidance),
     Refused(Refusal),

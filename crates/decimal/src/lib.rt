@@ -1,5 +1,7 @@
 // A quantity with three decimals, as the encounter sheet's program prints it: the number of thousandths nearest to an f64, ties to even,
 // worked out in whole numbers on the float's digits.
+#![tactic(auto)]
+
 ghost use Rattle.std.specs.Prelude.{◌≡◌, true, false, ◌*◌, ◌^◌, ◌≤◌, ◌<◌, pos};
 ghost use Rattle.std.specs.Float.{fin};
 ghost use Rattle.std.specs.Float.Ieee.{lt};

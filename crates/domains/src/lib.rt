@@ -1,11 +1,13 @@
 // The elementary functions that have a domain, refusing with number 1 outside it.
+#![tactic(auto)]
+
 ghost use Rattle.std.specs.Prelude.{◌≡◌};
 ghost use Rattle.domains.specs.Checked.{number_or_refused, hypot_answer, sin_answer, cos_answer, asin_answer, atan2_answer};
 
 use elementary::error::Refusal;
 
 // A number, or why there is none.
-#[derive(Drop)]
+#[derive(Clone, Copy)]
 pub enum Real {
     Number(f64),
     Refused(Refusal),

@@ -1,4 +1,6 @@
 // Who keeps out of the way, and by which rule: the first rule that speaks, in the order of colregs/specs/Colregs.antt.
+#![tactic(auto)]
+
 ghost use Rattle.std.specs.Prelude.{◌≡◌, [], ◌∷◌};
 ghost use Rattle.colregs.specs.Colregs as Spec;
 

@@ -4,7 +4,7 @@ ghost use Rattle.elementary.specs.Refusal.{number_of};
 ghost use Rattle.elementary.specs.Range.{in_range};
 
 // Why a function refuses. A refusal is its number in document 01's table and nothing else.
-#[derive(Drop)]
+#[derive(Clone, Copy)]
 pub enum Refusal {
     // 1: a course, heading, bearing or wind outside 0 to 360, another angle not finite, or an elementary function outside its domain.
     Angle,

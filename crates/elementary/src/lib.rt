@@ -1,2 +1,4 @@
 // The refusals of document 01, and its range check.
+#![tactic(auto)]
+
 pub mod error;

@@ -1,6 +1,8 @@
 // Replays the Rust's answers. Each record of standard input is three little-endian words: the function's number, x and y, floats as
 // bit patterns. For each the program writes the answer, as sixteen hexadecimal digits on a line; the file `stdout` has what
 // the Rust answers. How the records are made is said in docs/COMPARISON.md.
+#![tactic(auto)]
+
 ghost use Rattle.std.specs.Prelude.{◌≤◌, ◌<◌};
 
 use domains::Real;

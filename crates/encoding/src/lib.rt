@@ -1,4 +1,6 @@
 // A sheet's record as its bytes: the inverse of reading, for tests and tools. sheet_laws has the round trip, both ways.
+#![tactic(auto)]
+
 ghost use Rattle.std.specs.Prelude.{◌≡◌, ◌≤◌};
 ghost use Rattle.text.specs.Text.{shown, appended};
 ghost use Rattle.sheet_record.specs.Record as Record;

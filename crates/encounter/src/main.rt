@@ -1,6 +1,8 @@
 // The program `encounter` (document 01, 'Encounter sheet and its program'): reads an encounter sheet from standard input and prints the
 // report on it. What it prints is `report::report` of what it read; it reads one byte more than the largest sheet has, so that a longer
 // input is seen to be too long.
+#![tactic(auto)]
+
 ghost use Rattle.std.specs.Prelude.{◌≤◌, length};
 
 use libc::{STDIN_FILENO, STDOUT_FILENO};

@@ -1,5 +1,7 @@
 // C exports of the leaf functions, for the comparison with Rust. Each passes its arguments on, and its contract is that of
 // the function that it exports.
+#![tactic(auto)]
+
 ghost use Rattle.std.specs.Prelude.{◌≡◌};
 ghost use Rattle.math.specs.Cast as Cast;
 ghost use Rattle.rounding.specs.Cast as Rounded;

@@ -3,6 +3,8 @@
 //
 // From 1 on: relative course and speed, bearing drift; whether there is a closest approach, its distance and bearing, its time's
 // seconds and nanoseconds; whether there is a bow crossing, its distance; the risk's rank; range and bearing.
+#![tactic(auto)]
+
 ghost use Rattle.std.specs.Prelude.{◌≡◌};
 ghost use Rattle.policy.specs.Policy as Policy;
 ghost use Rattle.exports_assessment.specs.Words as Spec;

@@ -2,6 +2,8 @@
 // the refusal's number, or 0 where there is an answer; the others are 0 where it is refused. Then come the side (0 starboard, 1 port), the
 // alteration or its magnitude, the course, the passing distance, whether there is a turn time, its seconds and nanoseconds, and
 // the limiting contact's place and one, 0 for nobody. Floats are bit patterns.
+#![tactic(auto)]
+
 ghost use Rattle.std.specs.Prelude.{◌≡◌, get_or};
 ghost use Rattle.exports_avoidance.specs.Words as Spec;
 

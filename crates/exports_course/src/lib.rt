@@ -1,6 +1,8 @@
 // C exports of plots and of the course for a closest approach, for the comparison with Rust. An answer is six words, and `part` says
 // which one a call returns. Word 0 is the refusal's number, or 0 where there is an answer; the others are 0 where it is refused.
 // Floats are bit patterns.
+#![tactic(auto)]
+
 ghost use Rattle.std.specs.Prelude.{◌≡◌};
 ghost use Rattle.course.specs.Course as Course;
 ghost use Rattle.plot.specs.Plot as Plot;

@@ -1,5 +1,7 @@
 // The elementary functions for C, with NaN in place of refusal number 1. Each contract has the equation with the whole-number
 // method and what is proved of it.
+#![tactic(auto)]
+
 ghost use Rattle.std.specs.Prelude.{◌≡◌};
 ghost use Rattle.root.specs.Sqrt.{sqrt, IsSqrt};
 ghost use Rattle.root.specs.Hypot.{hypot, IsHypot};

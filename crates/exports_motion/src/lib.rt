@@ -1,5 +1,7 @@
 // C exports of relative motion, for the comparison with Rust. An answer is six words, and `part` says which one a call returns.
 // Word 0 is the refusal's number, or 0 where there is an answer; the others are 0 where it is refused. Floats are bit patterns.
+#![tactic(auto)]
+
 ghost use Rattle.std.specs.Prelude.{◌≡◌};
 ghost use Rattle.relative_motion.specs.Approach as Motion;
 ghost use Rattle.bow.specs.Bow as Bow;

@@ -1,5 +1,7 @@
 // C exports of the collision picture, for the comparison with Rust. The picture has the contacts that are assessed, with the remainder of their
 // place by 5 as their number, so that numbers repeat; where the first one is refused there is no picture and every word is 0.
+#![tactic(auto)]
+
 ghost use Rattle.std.specs.Prelude.{◌≡◌, length};
 ghost use Rattle.picture.specs.Picture as Picture;
 ghost use Rattle.exports_picture.specs.Words as Spec;

@@ -1,4 +1,6 @@
 // The C interface of the program: the report on a sheet, written into the caller's buffer (include/encounter.h).
+#![tactic(auto)]
+
 ghost use Rattle.std.specs.Prelude.{◌≡◌, ◌++◌, ◌≤◌, length, drop};
 ghost use Rattle.report.specs.Report.{report};
 ghost use Rattle.exports_report.specs.Written.{written, count};

@@ -1,5 +1,7 @@
 // C exports of the conversions of times, for the comparison with Rust. Each passes its arguments on, and its contract is that
 // of the function that it exports.
+#![tactic(auto)]
+
 ghost use Rattle.std.specs.Prelude.{◌≡◌};
 ghost use Rattle.time.specs.Clock as Clock;
 ghost use Rattle.exports_time.specs.Time.{kind_of, secs_of, nanos_of};

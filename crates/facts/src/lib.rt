@@ -1,4 +1,6 @@
 // The facts of a situation that the rules speak of.
+#![tactic(auto)]
+
 ghost use Rattle.std.specs.Prelude.{◌≡◌};
 ghost use Rattle.facts.specs.Facts as Spec;
 
@@ -8,7 +10,7 @@ use motion::vessel::{Components, Contact, Vessel};
 use situation::party::{Perhaps, Situation, VesselCategory, Visibility};
 
 // Which of two sailing vessels is to windward of the other.
-#[derive(Drop)]
+#[derive(Clone, Copy)]
 pub enum Windward {
     Unknown,
     Own,
@@ -16,7 +18,7 @@ pub enum Windward {
 }
 
 // `relative` is the target off own bow, `aspect` own craft off the target's, in degrees, positive to starboard.
-#[derive(Drop)]
+#[derive(Clone, Copy)]
 pub struct Facts {
     pub relative: f64,
     pub aspect: f64,

@@ -1,4 +1,6 @@
 // The fields of a line that say the approach and the risk, each appended with the space that follows it.
+#![tactic(auto)]
+
 ghost use Rattle.std.specs.Prelude.{◌≡◌};
 ghost use Rattle.text.specs.Text.{shown, appended};
 ghost use Rattle.text.specs.Line.{spaced};

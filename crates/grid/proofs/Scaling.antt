@@ -24,6 +24,7 @@ scale_begins e = refl
 pub scale_here : (k e f p B : ℕ) → 0 < k → p ≡ e * (f * f) → 2 ^ 54 ≤ p → scale_from k e f ≡ B → f ≡ B
 unfolding scale_from
 scale_here (suc k) e f p B hk ep h s = sym (ap (λ t. cond t f (scale_from k e (2 * f))) (is_true (leb (2 ^ 54) (e * (f * f))) (le→leb (2 ^ 54) (e * (f * f)) (rw ep at h)))) ∙ s
+scale_here zero e f p B hk ep h s = elim hk [ ]
 
 pub scale_more : (k e f p B : ℕ) → 0 < k → p ≡ e * (f * f) → p < 2 ^ 54 → scale_from k e f ≡ B → scale_from (k - 1) e (2 * f) ≡ B
 unfolding scale_from
@@ -31,6 +32,7 @@ scale_more (suc k) e f p B hk ep h s = rw (less k) (sym (ap (λ t. cond t f (sca
   where
     less : (k : ℕ) → suc k - 1 ≡ k
     less k = omega arith
+scale_more zero e f p B hk ep h s = elim hk [ ]
 
 pub scale_ends : (k e f B : ℕ) → k ≤ 0 → scale_from k e f ≡ B → f ≡ B
 unfolding scale_from

@@ -94,10 +94,12 @@ less_one f = omega arith
 
 pub halved : (f half : ℕ) → 0 < f → half ≡ 2 ^ f → half / 2 ≡ 2 ^ (f - 1)
 halved (suc g) half h e = omega (arith, pow-succ' 2 g, ap (λ t. 2 ^ t) (less_one g))
+halved zero half h e = elim h [ ]
 
 pub turn : (f : ℕ) (test : ℕ → Bool) (lo half B : ℕ) (t : Bool) → 0 < f → half ≡ 2 ^ f → greatest f test lo ≡ B → t ≡ test (lo + half / 2) → greatest (f - 1) test (cond t (lo + half / 2) lo) ≡ B
 unfolding greatest
 turn (suc g) test lo half B t h e b u = rw (u, halved (suc g) half h e, less_one g) b
+turn zero test lo half B t h e b u = elim h [ ]
 
 pub turned : (f : ℕ) (test : ℕ → Bool) (lo B : ℕ) → f ≤ 0 → greatest f test lo ≡ B → lo ≡ B
 unfolding greatest

@@ -1,5 +1,7 @@
 // Arctangent of f64s by whole numbers, with the arcsine of `arcsine` beside it: the crate `arcs` finds the angle, and this one takes the
 // f64s apart and puts the answer together, which is exact. What is proved of the answers: specs/Atan2.
+#![tactic(auto)]
+
 ghost use Rattle.std.specs.Prelude.{◌≡◌, false, ◌*◌, ◌/◌, ◌^◌, ◌≤◌, ◌<◌, T};
 ghost use Rattle.std.specs.Float.{binary64};
 ghost use Rattle.std.specs.Float.Ieee.{round};
@@ -26,7 +28,7 @@ const RAISE: f64 = 18014398509481984.0;
 const LEADING: u64 = 4503599627370496;
 
 // An f64 of clear sign: `digits` times 2^`place` units of 2^-1074.
-#[derive(Drop)]
+#[derive(Clone, Copy)]
 struct Parts {
     digits: u64,
     place: u64,

@@ -1,4 +1,6 @@
 // The lines that the encounter sheet's program prints, each appended to a text.
+#![tactic(auto)]
+
 ghost use Rattle.std.specs.Prelude.{◌≡◌};
 ghost use Rattle.text.specs.Text.{shown, appended};
 ghost use Rattle.lines.specs.Lines as Spec;

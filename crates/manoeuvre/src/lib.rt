@@ -1,5 +1,7 @@
 // What a manoeuvre is: the course to steer, the alteration, its time, the passing distance and the contact that limits it. The port of
 // avoidance.rs's `AvoidanceManoeuvre`.
+#![tactic(auto)]
+
 ghost use Rattle.std.specs.Prelude.{◌≡◌};
 ghost use Rattle.manoeuvre.specs.Manoeuvre as Spec;
 
@@ -7,28 +9,28 @@ use constraints::PerhapsRate;
 use motion::units::{Angle, Direction, Distance, RateOfTurn};
 use time::{Duration, TimeAnswer};
 
-#[derive(Drop)]
+#[derive(Clone, Copy)]
 pub enum Side {
     Starboard,
     Port,
 }
 
 // The time that the alteration takes, where a rate of turn is given and the time is not too long.
-#[derive(Drop)]
+#[derive(Clone, Copy)]
 pub enum TurnTime {
     Nothing,
     Of(Duration),
 }
 
 // The contact that passes closest, by its place in the list.
-#[derive(Drop)]
+#[derive(Clone, Copy)]
 pub enum Limiting {
     Nobody,
     Contact(usize),
 }
 
 // The alteration is positive to starboard.
-#[derive(Drop)]
+#[derive(Clone, Copy)]
 pub struct AvoidanceManoeuvre {
     course: Direction,
     alteration: Angle,

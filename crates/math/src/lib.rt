@@ -1,6 +1,8 @@
 // The helpers of math.rs that the encounter module leans on: conversions between degrees and radians, signs, tests,
 // and casts. Each takes any f64, NaN and infinities included. Rounding to whole numbers and the six elementary functions stand
 // in crates of their own.
+#![tactic(auto)]
+
 ghost use Rattle.std.specs.Prelude.{◌≡◌, pos};
 ghost use Rattle.std.specs.Float.Ieee as Ieee;
 ghost use Rattle.std.specs.Float.{binary64};

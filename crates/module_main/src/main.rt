@@ -2,6 +2,8 @@
 // function's number, which part of its answer, and the arguments, floats as bit patterns. For each the program writes that part, as
 // sixteen hexadecimal digits on a line; the file `stdout` has what the Rust answers. How the records are made is said in
 // docs/COMPARISON.md.
+#![tactic(auto)]
+
 ghost use Rattle.std.specs.Prelude.{◌≤◌, ◌<◌};
 
 use libc::{STDIN_FILENO, STDOUT_FILENO};

@@ -2,5 +2,7 @@
 //
 // Own craft is at the origin and the contact moves, as on a radar display. The definitions in specs/ follow relative_motion.rs
 // operation by operation.
+#![tactic(auto)]
+
 pub mod units;
 pub mod vessel;

@@ -1,25 +1,25 @@
 // Quantities with their units, so that a figure in knots never stands for one in nautical miles.
 
 // Nautical miles.
-#[derive(Drop)]
+#[derive(Clone, Copy)]
 pub struct Distance(pub f64);
 
 // Knots.
-#[derive(Drop)]
+#[derive(Clone, Copy)]
 pub struct Speed(pub f64);
 
 // Degrees, of a turn or a difference of directions.
-#[derive(Drop)]
+#[derive(Clone, Copy)]
 pub struct Angle(pub f64);
 
 // A true course, heading or bearing: degrees clockwise from north.
-#[derive(Drop)]
+#[derive(Clone, Copy)]
 pub struct Direction(pub f64);
 
 // A bearing from own bow: degrees clockwise.
-#[derive(Drop)]
+#[derive(Clone, Copy)]
 pub struct RelativeBearing(pub f64);
 
 // Degrees per minute: a rate of turn, or the drift of a bearing.
-#[derive(Drop)]
+#[derive(Clone, Copy)]
 pub struct RateOfTurn(pub f64);

@@ -5,21 +5,21 @@ ghost use Rattle.motion.specs.Vessel as Spec;
 use crate::units::{Direction, Distance, Speed};
 
 // Course and speed of a vessel.
-#[derive(Drop)]
+#[derive(Clone, Copy)]
 pub struct Vessel {
     pub course: Direction,
     pub speed: Speed,
 }
 
 // Where a contact is, from own craft.
-#[derive(Drop)]
+#[derive(Clone, Copy)]
 pub struct Contact {
     pub bearing: Direction,
     pub range: Distance,
 }
 
 // North and east parts: of a velocity in knots, of an offset in nautical miles.
-#[derive(Drop)]
+#[derive(Clone, Copy)]
 pub struct Components {
     pub north: f64,
     pub east: f64,

@@ -1,5 +1,7 @@
 // Answers of relative motion as words, for the C exports. Word 0 is the refusal's number, or 0 where there is an answer; the others
 // are 0 where it is refused. Floats are bit patterns.
+#![tactic(auto)]
+
 ghost use Rattle.std.specs.Prelude.{◌≡◌};
 ghost use Rattle.motion_words.specs.Words as Spec;
 

@@ -1,6 +1,8 @@
 // What one contact does to a course (avoidance.rs, `clears`): it closes under the distance that is wanted, or passes at a distance.
 //
 // specs/Passages.antt has the plain definition, by `closest_point_of_approach`, and beside it what is computed here.
+#![tactic(auto)]
+
 ghost use Rattle.std.specs.Prelude.{◌≡◌};
 ghost use Rattle.passages.specs.Passages as Spec;
 
@@ -11,14 +13,14 @@ use relative_motion::approach;
 use relative_motion::approach::Pass;
 
 // A target as the search sees it: where it is and how it moves.
-#[derive(Drop)]
+#[derive(Clone, Copy)]
 pub struct Target {
     pub contact: Contact,
     pub vessel: Vessel,
 }
 
 // The same by its range, and by the north and east parts of its offset and its velocity.
-#[derive(Drop)]
+#[derive(Clone, Copy)]
 pub struct Moving {
     pub range: Distance,
     pub offset: Components,
@@ -26,7 +28,7 @@ pub struct Moving {
 }
 
 // What one contact does to a course: it closes under the distance that is wanted, or passes at a distance.
-#[derive(Drop)]
+#[derive(Clone, Copy)]
 pub enum Passage {
     Blocked,
     At(Distance),

@@ -1,4 +1,6 @@
 // The collision picture: targets assessed against own craft at one instant (assessment.rs, `CollisionPicture`), a fixed array and a count.
+#![tactic(auto)]
+
 ghost use Rattle.std.specs.Prelude.{◌≡◌, [], ◌∷◌, eqb, length};
 ghost use Rattle.picture.specs.Picture as Spec;
 
@@ -7,7 +9,7 @@ use room::MAX_CONTACTS;
 use targets::{PerhapsTarget, TargetAssessment, is_at_least, keep, or_this};
 
 // The first `count` of the list, in the order in which they were listed.
-#[derive(Drop)]
+#[derive(Clone, Copy)]
 pub struct CollisionPicture {
     pub count: usize,
     pub list: [TargetAssessment; MAX_CONTACTS],

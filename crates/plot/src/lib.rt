@@ -1,4 +1,6 @@
 // A target's course and speed from two plots.
+#![tactic(auto)]
+
 ghost use Rattle.std.specs.Prelude.{◌≡◌};
 ghost use Rattle.plot.specs.Plot as Spec;
 
@@ -10,7 +12,7 @@ use motion::vessel::{Components, Contact, Vessel};
 use time::Duration;
 
 // What two plots tell of a target. The aspect is own craft's bearing off the target's bow, negative on its port side.
-#[derive(Drop)]
+#[derive(Clone, Copy)]
 pub struct TargetSolution {
     pub vessel: Vessel,
     pub relative_course: Direction,
@@ -18,7 +20,7 @@ pub struct TargetSolution {
     pub aspect: Angle,
 }
 
-#[derive(Drop)]
+#[derive(Clone, Copy)]
 pub enum PlotAnswer {
     Of(TargetSolution),
     Refused(Refusal),

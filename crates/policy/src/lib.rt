@@ -1,4 +1,6 @@
 // The limits within which an approach is dangerous, from assessment.rs; the definitions in specs/ follow it operation by operation.
+#![tactic(auto)]
+
 ghost use Rattle.std.specs.Prelude.{◌≡◌};
 ghost use Rattle.arguments.specs.Check as Check;
 ghost use Rattle.policy.specs.Policy as Spec;
@@ -9,13 +11,13 @@ use motion::units::Distance;
 use time::Duration;
 
 // A closest approach within `cpa_limit` is dangerous; later than `tcpa_limit` it is developing.
-#[derive(Drop)]
+#[derive(Clone, Copy)]
 pub struct CpaPolicy {
     cpa_limit: Distance,
     tcpa_limit: Duration,
 }
 
-#[derive(Drop)]
+#[derive(Clone, Copy)]
 pub enum PolicyAnswer {
     Of(CpaPolicy),
     Refused(Refusal),

@@ -13,7 +13,7 @@ use time::{Duration, TimeAnswer};
 const STATIONARY_KNOTS: f64 = 1e-9;
 
 // The closest point of approach.
-#[derive(Drop)]
+#[derive(Clone, Copy)]
 pub struct Cpa {
     pub distance: Distance,
     pub time_to_go: Duration,
@@ -21,7 +21,7 @@ pub struct Cpa {
 }
 
 // How the range goes: it closes to a point ahead, or it opens, or nothing moves.
-#[derive(Drop)]
+#[derive(Clone, Copy)]
 pub enum Approach {
     Closing(Cpa),
     Opening { current_range: Distance },
@@ -29,26 +29,26 @@ pub enum Approach {
 }
 
 // An approach without its time and bearing: the distance of the closest point, or the range now.
-#[derive(Drop)]
+#[derive(Clone, Copy)]
 pub enum Pass {
     Closing(Distance),
     Opening(Distance),
     Stationary(Distance),
 }
 
-#[derive(Drop)]
+#[derive(Clone, Copy)]
 pub enum CpaAnswer {
     Of(Approach),
     Refused(Refusal),
 }
 
-#[derive(Drop)]
+#[derive(Clone, Copy)]
 pub enum PassAnswer {
     Of(Pass),
     Refused(Refusal),
 }
 
-#[derive(Drop)]
+#[derive(Clone, Copy)]
 pub enum BearingAnswer {
     Of(RelativeBearing),
     Refused(Refusal),

@@ -3,4 +3,6 @@
 // Own craft is at the origin and the contact moves, as on a radar display. Every public function takes any numbers: arguments
 // outside document 01's ranges are refused by its numbers, in its order. The definitions in specs/ follow the Rust operation by
 // operation.
+#![tactic(auto)]
+
 pub mod approach;

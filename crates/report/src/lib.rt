@@ -1,4 +1,6 @@
 // From a sheet's bytes to the lines that the encounter program prints (document 01, 'Encounter sheet and its program').
+#![tactic(auto)]
+
 ghost use Rattle.std.specs.Prelude.{◌≡◌, length};
 ghost use Rattle.text.specs.Text.{shown, appended};
 ghost use Rattle.sheet_record.specs.Record as Record;

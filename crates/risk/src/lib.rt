@@ -1,5 +1,7 @@
 // Of one contact: how fast the bearing draws, the closest approach and the bow crossing where there are any, and the risk against
 // the vessel's limits. From assessment.rs; the definitions in specs/ follow it operation by operation.
+#![tactic(auto)]
+
 ghost use Rattle.std.specs.Prelude.{◌≡◌};
 ghost use Rattle.risk.specs.Risk as Spec;
 
@@ -10,7 +12,7 @@ use policy::CpaPolicy;
 use relative_motion::approach::{Approach, Cpa};
 
 // In the order of concern: the range opens or stays; the closest approach is outside the limit; inside it but late; inside both.
-#[derive(Drop)]
+#[derive(Clone, Copy)]
 pub enum CollisionRisk {
     Opening,
     Passing,
@@ -19,13 +21,13 @@ pub enum CollisionRisk {
 }
 
 // What an assessment may lack: the closest approach and its distance, unless the range closes; the bow crossing.
-#[derive(Drop)]
+#[derive(Clone, Copy)]
 pub enum PerhapsCpa {
     Nothing,
     Of(Cpa),
 }
 
-#[derive(Drop)]
+#[derive(Clone, Copy)]
 pub enum PerhapsDistance {
     Nothing,
     Of(Distance),

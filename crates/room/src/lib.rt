@@ -1,4 +1,6 @@
 // The room for contacts, which every list of them has.
+#![tactic(auto)]
+
 ghost use Rattle.std.specs.Prelude.{◌≡◌, min};
 ghost use Rattle.room.specs.Room.{max_contacts};
 

@@ -29,6 +29,7 @@ limit_doubled limit (suc l) h e =
   where
     sub : (l : ℕ) → suc l - 1 ≡ l
     sub l = omega arith
+limit_doubled limit zero h e = elim h [ ]
 
 one_on : (d l : ℕ) → 0 < l → l ≤ 27 → 4 * (d * 4 ^ (27 - l)) ≡ d * 4 ^ (27 - (l - 1))
 one_on d l h k = sym (ap (λ t. d * 4 ^ t) (up l h k) ∙ four d (27 - l))

@@ -29,6 +29,7 @@ step_halved (suc g) step h e = (omega (arith, pow-succ' 2 g, ap (λ t. 2 ^ t) (s
   where
     sub : (g : ℕ) → suc g - 1 ≡ g
     sub g = omega arith
+step_halved zero step h e = elim h [ ]
 
 pub square-small : (t : ℕ) → t ≤ 2 ^ 27 → t * t ≤ 2 ^ 54
 square-small t h = mul-le-mul h h

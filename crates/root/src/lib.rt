@@ -3,6 +3,8 @@
 // `sqrt` takes the digits m and the exponent j of its argument, which is m * 2^j in units of 2^-2148, and finds the whole number
 // nearest to the root of m * 2^52 or m * 2^53. A float computation makes a guess, whole numbers decide: the square of the guess tells whether it
 // is the nearest, or the number after or before it is, and if none is the root is found digit by digit.
+#![tactic(auto)]
+
 ghost use Rattle.std.specs.Prelude.{◌≡◌, ◌+◌, ◌*◌, ◌^◌, ◌≤◌, ◌<◌};
 ghost use Rattle.root.specs.Digits.{Remainder, Excess};
 ghost use Rattle.root.specs.Root.{IsRoot, NearestRoot};
@@ -76,7 +78,7 @@ fn root_by_digits(d: u64) -> u64
 }
 
 // A number with its leading digit moved up to the place 2^52, and by how many places.
-#[derive(Drop)]
+#[derive(Clone, Copy)]
 struct Normalised {
     m: u64,
     places: u64,

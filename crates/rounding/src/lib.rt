@@ -1,4 +1,6 @@
 // Rounding to whole numbers, from math.rs. Each takes any f64, NaN and infinities included.
+#![tactic(auto)]
+
 ghost use Rattle.std.specs.Prelude.{◌≡◌};
 ghost use Rattle.rounding.specs.Whole as Whole;
 ghost use Rattle.rounding.specs.Cast as Cast;

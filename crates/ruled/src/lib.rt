@@ -1,5 +1,7 @@
 // The ruled search: the smallest trial that clears all traffic, on a side that the ruling on every contact permits. Its contract holds the
 // equation with its definition (rulings, specs/Ruled.antt) and the order's third demand, clause by clause (specs/Demand3.antt there).
+#![tactic(auto)]
+
 ghost use Rattle.std.specs.Prelude.{◌≡◌};
 ghost use Rattle.arguments.specs.Check as Check;
 ghost use Rattle.rulings.specs.Demand3.{Demand3};

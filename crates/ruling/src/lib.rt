@@ -1,5 +1,7 @@
 // The ruling of COLREGs on an encounter of two vessels: what kind it is, who keeps out of the way, by which rule, and which
 // manoeuvres that permits. The port of kinavis-colregs; colregs/specs/Colregs.antt has the rules, one definition each.
+#![tactic(auto)]
+
 ghost use Rattle.std.specs.Prelude.{◌≡◌};
 ghost use Rattle.colregs.specs.Colregs as Spec;
 

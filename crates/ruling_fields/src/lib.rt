@@ -1,4 +1,6 @@
 // The fields of a contact's line that come from its ruling, each appended with the space that follows it.
+#![tactic(auto)]
+
 ghost use Rattle.std.specs.Prelude.{◌≡◌};
 ghost use Rattle.text.specs.Text.{shown, appended};
 ghost use Rattle.text.specs.Line.{spaced};

@@ -1,5 +1,7 @@
 // A ruling as eight words, for the C exports. Word 0 is the refusal's number, or 0 where there is a ruling; the others are 0 where it
 // is refused.
+#![tactic(auto)]
+
 ghost use Rattle.std.specs.Prelude.{◌≡◌};
 ghost use Rattle.ruling_words.specs.Words as Spec;
 
@@ -7,7 +9,7 @@ use colregs::answer::{Encounter, Responsibility, Ruling, RulingAnswer, Side};
 use elementary::error::Refusal;
 
 // The number of a refusal, and the ruling.
-#[derive(Drop)]
+#[derive(Clone, Copy)]
 pub struct Words {
     pub number: u64,
     pub encounter: u64,

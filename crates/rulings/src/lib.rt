@@ -1,5 +1,7 @@
 // The sides to which every ruling on the traffic lets own craft alter, and what the ruled search answers. specs/Ruled.antt has the
 // ruled search as a definition, specs/Demand3.antt the order's third demand, clause by clause.
+#![tactic(auto)]
+
 ghost use Rattle.std.specs.Prelude.{◌≡◌};
 ghost use Rattle.traffic.specs.Traffic as Around;
 ghost use Rattle.rulings.specs.Ruled as Spec;
@@ -15,7 +17,7 @@ use traffic::{Entry, Traffic};
 
 // A trial that clears the traffic: the list that held it, its magnitude, the altered course, the time that the turn takes, the least passing
 // distance and whose it is.
-#[derive(Drop)]
+#[derive(Clone, Copy)]
 pub struct RuledManoeuvre {
     pub side: Side,
     pub magnitude: Angle,
@@ -25,7 +27,7 @@ pub struct RuledManoeuvre {
     pub limiting: Limiting,
 }
 
-#[derive(Drop)]
+#[derive(Clone, Copy)]
 pub enum RuledAnswer {
     Of(RuledManoeuvre),
     Refused(Refusal),

@@ -1,5 +1,7 @@
 // The choice among the seeds of both sides and the trial lists: a side's exact course is tried first, then its trial list
 // (avoidance.rs, `avoid`); specs/Seeds.antt has the definition.
+#![tactic(auto)]
+
 ghost use Rattle.std.specs.Prelude.{◌≡◌};
 ghost use Rattle.choice.specs.Choice as Choosing;
 ghost use Rattle.clearing.specs.Clearing as Clearing;
@@ -15,7 +17,7 @@ use motion::units::Direction;
 use motion::vessel::Vessel;
 
 // The magnitude of a side's exact alteration, where there is one.
-#[derive(Drop)]
+#[derive(Clone, Copy)]
 pub enum Seed {
     Nothing,
     Of(f64),

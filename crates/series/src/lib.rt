@@ -2,6 +2,8 @@
 //
 // Angles and values are numbers of units; ONE of them is 1. A product of two is exact up to the cut to a whole unit, the
 // coefficients are cut the same way, and Horner's rule has no division. The error of the sums is a few units: proofs/Values.
+#![tactic(auto)]
+
 ghost use Rattle.std.specs.Prelude.{◌≡◌, ◌*◌, ◌/◌, ◌-◌, ◌^◌, ◌≤◌, ◌<◌};
 ghost use Rattle.series.specs.Taylor.{sine_divisors, cosine_divisors};
 ghost use Rattle.series.specs.Units.{horner, sine_units, cosine_units};

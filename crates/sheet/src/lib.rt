@@ -1,4 +1,6 @@
 // The checks of an encounter sheet, in document 01's order: layout (15), count (14), codes (16), then the values in the sheet's order.
+#![tactic(auto)]
+
 ghost use Rattle.std.specs.Prelude.{◌≡◌};
 ghost use Rattle.arguments.specs.Check as Check;
 ghost use Rattle.sheet_record.specs.Record as Record;

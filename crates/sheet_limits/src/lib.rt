@@ -1,4 +1,6 @@
 // What a sheet asks for, as the module has it: the limits of the assessment and of the turn, and the id of the contact at a place.
+#![tactic(auto)]
+
 ghost use Rattle.std.specs.Prelude.{◌≡◌};
 ghost use Rattle.sheet_record.specs.Record as Record;
 ghost use Rattle.sheet_limits.specs.Limits as Spec;

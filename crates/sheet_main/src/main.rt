@@ -1,6 +1,8 @@
 // Replays reports. Each line of standard input is a sheet, two hexadecimal digits for each byte; for each the program writes the report on it
 // and an empty line. The file `stdout` has what the oracle's own reading and printing gives. How both are made is said in
 // docs/COMPARISON.md.
+#![tactic(auto)]
+
 ghost use Rattle.std.specs.Prelude.{◌≤◌, length};
 
 use libc::{STDIN_FILENO, STDOUT_FILENO};

@@ -1,4 +1,6 @@
 // An encounter sheet as a record of whole numbers, as they stand in its words: the header and up to MAX_CONTACTS contacts.
+#![tactic(auto)]
+
 ghost use Rattle.std.specs.Prelude.{◌≡◌, length, take};
 ghost use Rattle.sheet_words.specs.Word as Words;
 ghost use Rattle.sheet_record.specs.Record as Spec;
@@ -7,14 +9,14 @@ use elementary::error::Refusal;
 use room::MAX_CONTACTS;
 
 // Where the wind comes from, in 1/1024 degree.
-#[derive(Drop)]
+#[derive(Clone, Copy)]
 pub enum Wind {
     Unknown,
     From(u32),
 }
 
 // Angles, speeds and distances count 1/1024, the TCPA limit seconds.
-#[derive(Drop)]
+#[derive(Clone, Copy)]
 pub struct Header {
     pub course: u32,
     pub speed: u32,
@@ -28,7 +30,7 @@ pub struct Header {
     pub wind: Wind,
 }
 
-#[derive(Drop)]
+#[derive(Clone, Copy)]
 pub struct Row {
     pub id: u32,
     pub bearing: u32,
@@ -39,14 +41,14 @@ pub struct Row {
 }
 
 // The first `count` of the list.
-#[derive(Drop)]
+#[derive(Clone, Copy)]
 pub struct Rows {
     pub count: usize,
     pub list: [Row; MAX_CONTACTS],
 }
 
 // Whether the layout and the count are right.
-#[derive(Drop)]
+#[derive(Clone, Copy)]
 pub enum Readable {
     Yes,
     Refused(Refusal),

@@ -1,4 +1,6 @@
 // What the whole numbers of a sheet stand for: quantities in 1/1024, codes, own craft and the traffic.
+#![tactic(auto)]
+
 ghost use Rattle.std.specs.Prelude.{◌≡◌, map};
 ghost use Rattle.sheet_record.specs.Record as Record;
 ghost use Rattle.traffic.specs.Traffic as Around;

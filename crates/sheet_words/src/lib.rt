@@ -1,4 +1,6 @@
 // An encounter sheet's bytes as words, and the order of their kinds (document 01, 'Encounter sheet and its program').
+#![tactic(auto)]
+
 ghost use Rattle.std.specs.Prelude.{◌≡◌, length, get_or, ◌*◌, ◌+◌, ◌≤◌, ◌<◌};
 ghost use Rattle.std.proofs.Math.Seq.{slice};
 ghost use Rattle.sheet_words.specs.Word as Spec;

@@ -2,7 +2,7 @@
 use motion::units::Angle;
 
 // How far abaft the beam overtaking begins, and how far off the bow a vessel still meets head-on.
-#[derive(Drop)]
+#[derive(Clone, Copy)]
 pub struct ColregsConfig {
     pub overtaking_abaft_beam: Angle,
     pub head_on_half_width: Angle,

@@ -6,14 +6,14 @@ use motion::units::Direction;
 use motion::vessel::{Contact, Vessel};
 
 // The side of a sailing vessel that the wind is on.
-#[derive(Drop)]
+#[derive(Clone, Copy)]
 pub enum Tack {
     Port,
     Starboard,
     Unknown,
 }
 
-#[derive(Drop)]
+#[derive(Clone, Copy)]
 pub enum VesselCategory {
     PowerDriven,
     Sailing { tack: Tack },
@@ -24,27 +24,27 @@ pub enum VesselCategory {
 }
 
 // A direction that may be unknown.
-#[derive(Drop)]
+#[derive(Clone, Copy)]
 pub enum Perhaps {
     Unknown,
     Known(Direction),
 }
 
 // A vessel in an encounter: how she moves, where she heads if that is known, what she is.
-#[derive(Drop)]
+#[derive(Clone, Copy)]
 pub struct Party {
     pub motion: Vessel,
     pub heading: Perhaps,
     pub category: VesselCategory,
 }
 
-#[derive(Drop)]
+#[derive(Clone, Copy)]
 pub enum Visibility {
     InSight,
     Restricted,
 }
 
-#[derive(Drop)]
+#[derive(Clone, Copy)]
 pub struct Situation {
     pub own: Party,
     pub target: Party,

@@ -2,6 +2,8 @@
 //
 // `codes`, from the low bits: own category and the target's (three each), and one each for visibility, own heading, the target's heading
 // and the wind.
+#![tactic(auto)]
+
 ghost use Rattle.std.specs.Prelude.{◌≡◌};
 ghost use Rattle.situation_codes.specs.Situations as Spec;
 

@@ -1,4 +1,6 @@
 // Assessed targets, of which the collision picture is made: which of two is the more dangerous, and what a pass over them keeps.
+#![tactic(auto)]
+
 ghost use Rattle.std.specs.Prelude.{◌≡◌};
 ghost use Rattle.targets.specs.Picture as Spec;
 
@@ -7,13 +9,13 @@ use risk::CollisionRisk;
 use time::Duration;
 
 // An assessment, and the number by which its target is known.
-#[derive(Drop)]
+#[derive(Clone, Copy)]
 pub struct TargetAssessment {
     pub target: u32,
     pub assessment: CollisionAssessment,
 }
 
-#[derive(Drop)]
+#[derive(Clone, Copy)]
 pub enum PerhapsTarget {
     Nothing,
     Of(TargetAssessment),

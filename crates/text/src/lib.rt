@@ -1,5 +1,7 @@
 // Text that a program prints: bytes up to a fixed room, to which pieces are appended. What does not fit is cut, so that appending takes
 // every piece; whoever shows that a text fits has it whole.
+#![tactic(auto)]
+
 ghost use Rattle.std.specs.Prelude.{◌≡◌, [], ◌∷◌, length};
 ghost use Rattle.text.specs.Text.{shown, appended};
 ghost use Rattle.text.specs.Decimal.{last_digit, decimal_of, three_decimals};
@@ -8,7 +10,7 @@ ghost use Rattle.text.specs.Decimal.{last_digit, decimal_of, three_decimals};
 pub const ROOM: usize = 8192;
 
 // The first `len` bytes.
-#[derive(Drop)]
+#[derive(Clone, Copy)]
 pub struct Text {
     pub bytes: [u8; ROOM],
     pub len: usize,

@@ -1,6 +1,8 @@
 // Times: whole seconds with nanoseconds, and their conversions from and to f64 (document 01, the leaf helpers).
 //
 // A number of seconds becomes the nearest nanosecond, ties to even, worked out in whole numbers on the float's digits.
+#![tactic(auto)]
+
 ghost use Rattle.std.specs.Prelude.{◌≡◌, ◌+◌, ◌*◌, ◌^◌, ◌<◌, ◌≤◌, true, false, pos};
 ghost use Rattle.std.specs.Float.{fin};
 ghost use Rattle.std.specs.Float.Ieee.{lt};
@@ -8,14 +10,14 @@ ghost use Rattle.std.specs.Float.Ieee.Nearest.{closest};
 ghost use Rattle.time.specs.Clock.{clock, nanos_in, from_seconds, from_hours, hours_of, is_before, is_accepted};
 
 // A length of time. Fewer than 10^9 nanoseconds, in what the functions here answer.
-#[derive(Drop)]
+#[derive(Clone, Copy)]
 pub struct Duration {
     pub secs: u64,
     pub nanos: u32,
 }
 
 // A number of seconds or hours as a time.
-#[derive(Drop)]
+#[derive(Clone, Copy)]
 pub enum TimeAnswer {
     Of(Duration),
     // 2^64 seconds and more, which no Duration holds.

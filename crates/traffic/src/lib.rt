@@ -1,4 +1,6 @@
 // The traffic around own craft: contacts with the vessels that they are, at most MAX_CONTACTS.
+#![tactic(auto)]
+
 ghost use Rattle.std.specs.Prelude.{◌≡◌, ◌∷◌, [], map};
 ghost use Rattle.arguments.specs.Check as Check;
 ghost use Rattle.clearing.specs.Clearing as Clearing;
@@ -15,14 +17,14 @@ use situation::check;
 use situation::party::Party;
 
 // A contact, and the vessel that it is.
-#[derive(Drop)]
+#[derive(Clone, Copy)]
 pub struct Entry {
     pub contact: Contact,
     pub target: Party,
 }
 
 // The first `count` of the list.
-#[derive(Drop)]
+#[derive(Clone, Copy)]
 pub struct Traffic {
     pub count: usize,
     pub list: [Entry; MAX_CONTACTS],

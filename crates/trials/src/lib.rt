@@ -1,5 +1,7 @@
 // The trial list of a side (document 01, 'Trial list'): least plus k, for k from 0 to the whole part of most minus least, each sum and
 // difference rounded once, cut at most. In degrees.
+#![tactic(auto)]
+
 ghost use Rattle.std.specs.Prelude.{◌≡◌, length};
 ghost use Rattle.trials.specs.Trials as Spec;
 

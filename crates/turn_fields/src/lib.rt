@@ -1,4 +1,6 @@
 // The fields of the line on a turn that say its side, the passing distance and the contact whose it is.
+#![tactic(auto)]
+
 ghost use Rattle.std.specs.Prelude.{◌≡◌, [], ◌∷◌};
 ghost use Rattle.text.specs.Text.{shown, appended};
 ghost use Rattle.text.specs.Line.{spaced, line};

@@ -1,5 +1,7 @@
 // The remainder of an f64 by a full turn, 360, without a division: whole numbers of full turns are taken away, 2^1015 of them first where there
 // are so many, then half as many, and so on to one. Every difference is exact (proofs/Laws.antt).
+#![tactic(auto)]
+
 ghost use Rattle.std.specs.Prelude.{◌≡◌, false, cond, ◌≤◌};
 ghost use Rattle.std.specs.Float.{binary64};
 ghost use Rattle.std.specs.Float.Ieee.{sub, rem, lt, le};

@@ -1,4 +1,6 @@
 // What the C exports of motion share: an answer as six words, and the arguments of vessels and contacts. Floats are bit patterns.
+#![tactic(auto)]
+
 ghost use Rattle.std.specs.Prelude.{◌≡◌};
 ghost use Rattle.words.specs.Words as Spec;
 
@@ -7,7 +9,7 @@ use motion::units::{Direction, Distance, Speed};
 use motion::vessel::{Contact, Vessel};
 
 // The number of a refusal, and up to five values.
-#[derive(Drop)]
+#[derive(Clone, Copy)]
 pub struct Words {
     pub number: u64,
     pub first: u64,

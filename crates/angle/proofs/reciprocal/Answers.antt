@@ -1,0 +1,7 @@
+use Rattle.angle.specs.Fold.{reciprocal}
+use borrow.Author.Rules.{rules}
+use Rattle.angle.proofs.reciprocal.Goals as goal
+
+pub returns : goal.returns
+unfolding reciprocal
+returns c = c.wrap360.ensures

@@ -1,0 +1,12 @@
+use mathlib.Core.Path.{◌≡◌, ap, ◌∙◌}
+use Rattle.angle.specs.Fold.{turned}
+use Rattle.angle.proofs.Branches.{full, not_full}
+use Rattle.angle.proofs.wrap360.Goals as goal
+
+pub returns-then-turned : goal.returns-then-turned
+returns-then-turned c =
+    full c.args.degrees c.not_below_zero-turned.result (c.not_below_zero-turned.ensures ∙ ap turned c.remainder-rest.ensures) c.if-turned.true
+
+pub returns : goal.returns
+returns c =
+    not_full c.args.degrees c.not_below_zero-turned.result (c.not_below_zero-turned.ensures ∙ ap turned c.remainder-rest.ensures) c.if-turned.false

@@ -1,0 +1,15 @@
+use mathlib.Core.Path.{sym}
+use mathlib.Core.Bool.{true≢false}
+use Rattle.arcs.proofs.Checks.{sine_next, sine_settled, sine_of}
+use borrow.Author.Rules.{rules}
+use Rattle.arcs.proofs.settled_sine.Goals as goal
+use Rattle.arcs.proofs.settled_sine.Lts as at
+
+pub returns-then-x-s : goal.returns-then-x-s
+returns-then-x-s c = λ e. absurd (true≢false (sym e))
+
+pub returns-then-x-s-2 : goal.returns-then-x-s-2
+returns-then-x-s-2 c = λ _. sine_settled c.args.a _ c.requires.1 c.product-z.ensures c.args.x _ _ c.sine_series.ensures c.product-s.ensures c.if-x-s.false c.if-x-s-2.true
+
+pub returns : goal.returns
+returns c = λ h. sine_next c.args.x c.args.a _ _ c.requires.1 (sine_of c.args.a _ c.requires.1 c.product-z.ensures _ _ c.sine_series.ensures c.product-s.ensures) c.if-x-s.false c.sine_at.ensures.0 h

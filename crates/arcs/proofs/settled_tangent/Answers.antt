@@ -1,0 +1,14 @@
+use mathlib.Core.Path.{sym}
+use mathlib.Core.Bool.{true≢false}
+use Rattle.arcs.proofs.Checks.{tangent_settled, tangent_settled_next}
+use borrow.Author.Rules.{rules}
+use Rattle.arcs.proofs.settled_tangent.Goals as goal
+
+pub returns-then-h-g : goal.returns-then-h-g
+returns-then-h-g c = λ e. absurd (true≢false (sym e))
+
+pub returns-then-h-g-2 : goal.returns-then-h-g-2
+returns-then-h-g-2 c = λ _. tangent_settled c.args.a _ c.requires.2 c.product-z.ensures _ _ _ _ _ _ _ _ c.requires.0 c.requires.1 c.sine_series.ensures c.product-s.ensures c.cosine_series.ensures c.product.ensures c.product-g.ensures c.product-h.ensures c.if-h-g.false _ _ c.product-2.ensures c.product-3.ensures c.if-h-g-2.true
+
+pub returns : goal.returns
+returns c = λ e. tangent_settled_next c.args.a _ c.requires.2 c.product-z.ensures _ _ _ _ _ _ _ _ c.requires.0 c.requires.1 c.sine_series.ensures c.product-s.ensures c.cosine_series.ensures c.product.ensures c.product-g.ensures c.product-h.ensures c.if-h-g.false _ c.under.ensures e

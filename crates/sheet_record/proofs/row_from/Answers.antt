@@ -1,0 +1,9 @@
+use mathlib.Core.Path.{refl}
+use Rattle.sheet_record.specs.Record.{row_from}
+use borrow.Author.Rules.{rules}
+use Rattle.sheet_record.proofs.row_from.Goals as goal
+use Rattle.sheet_record.proofs.row_from.Lts as at
+
+pub returns : goal.returns
+unfolding row_from
+returns c = rw (c.value_at-6.ensures, c.value_at-5.ensures, c.value_at-4.ensures, c.value_at-3.ensures, c.value_at-2.ensures, c.value_at.ensures) refl

@@ -1,0 +1,14 @@
+use Prim.Native.Nat.{ℕ, ◌+◌, ◌-◌, ◌*◌, ◌/◌, ◌≤◌, ◌<◌}
+use mathlib.Core.Path.{◌≡◌, refl, sym, ◌∙◌, subst}
+use native.Mathlib.Omega.{arith}
+use lib.ListN.{length, get_or}
+use Rattle.sheet_words.specs.Word.{words}
+use Rattle.sheet_words.proofs.Words.{count, at_place, left, goes_on, wrong, ends}
+use borrow.Author.Rules.{rules}
+use Rattle.sheet_words.proofs.in_order.Given as goal
+
+abbrev pub invariant-loop-i : goal.invariant-loop-i
+invariant-loop-i l = left (words l.bytes) l.to l.kind l.i ≡ left (words l.bytes) l.to l.first l.from
+
+abbrev pub decreases-loop-i : goal.decreases-loop-i
+decreases-loop-i l = l.to - l.i

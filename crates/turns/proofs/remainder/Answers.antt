@@ -1,0 +1,16 @@
+use mathlib.Core.Path.{◌≡◌, ap, ◌∙◌}
+use lib.Ieee.{neg}
+use Rattle.turns.proofs.Laws.{turned_round, opposite}
+use Rattle.turns.proofs.remainder.Goals as goal
+
+pub remainder_of_positive-requires : goal.remainder_of_positive-requires
+remainder_of_positive-requires c = turned_round c.args.x c.if-x.true
+
+pub returns-then-x : goal.returns-then-x
+returns-then-x c = ap neg c.remainder_of_positive.ensures ∙ opposite c.args.x
+
+pub remainder_of_positive-requires-2 : goal.remainder_of_positive-requires-2
+remainder_of_positive-requires-2 c = c.if-x.false
+
+pub returns : goal.returns
+returns c = c.remainder_of_positive-2.ensures
