@@ -41,7 +41,8 @@ MADE = re.compile(r"^(?:returns|if|in|loop|match|overflow|slice|bounds|nonzero|i
 # Names that would fall together with another one in the same file, and what they become instead.
 INSTEAD = {
     name: name.replace("-", "_") + "_lem"
-    for name in "from-units is-blocked is-stopped by-verdict by-tacks by-windward same-side to-starboard no-courses to-unsigned".split()
+    for name in "from-units is-blocked is-stopped by-verdict by-tacks by-windward same-side to-starboard no-courses to-unsigned asin-answer atan2-answer cos-answer hypot-answer "
+    "sin-answer is-direction is-distance is-speed header-length".split()
 }
 # The same, for lemmas that had today's spelling already, by file.
 IN_FILE = {

@@ -146,9 +146,11 @@ arcsine_is x t = record { inside = λ d. go (in_domain x) refl d (lt x tiny) ref
     go : (c : Bool) → in_domain x ≡ c → T c → (b : Bool) → lt x tiny ≡ b → Encloses x (cond c (cond b x answer) nan)
     go true e d true h = tiny_encloses x t (lower x (holds e)) h
     go true e d false h = let k = in-domain x t (holds e) in round_encloses x t k.0 k.1
+    go false e d b h = elim d [ ]
 
     none : (c : Bool) → T (not c) → cond c (cond (lt x tiny) x answer) nan ≡ nan
     none false d = refl
+    none true d = elim d [ ]
 
 -- ---- what the code owes
 at_least : (x : Float) → lt x tiny ≡ false → le x one ≡ true → le zero x ≡ true

@@ -36,22 +36,22 @@ answer true v out number = go (eq v v) refl
     go true e = refl
     go false e = absurd (subst (λ x. T (finite x)) (nan_of_eq v e) (number tt))
 
-pub hypot_answer : (x y h : Float) (r : Real) → T (fits binary64 x) → T (fits binary64 y) → h ≡ hypot x y → r ≡ number_or_refused h → r ≡ hypot_answer x y
+pub hypot_answer_lem : (x y h : Float) (r : Real) → T (fits binary64 x) → T (fits binary64 y) → h ≡ hypot x y → r ≡ number_or_refused h → r ≡ hypot_answer x y
 unfolding hypot_answer
-hypot_answer x y h r tx ty e f = let is = hypot_is x y tx ty in f ∙ ap number_or_refused e ∙ answer (in_domain x && in_domain y) (hypot x y) is.outside (λ d. (is.inside d).number)
+hypot_answer_lem x y h r tx ty e f = let is = hypot_is x y tx ty in f ∙ ap number_or_refused e ∙ answer (in_domain x && in_domain y) (hypot x y) is.outside (λ d. (is.inside d).number)
 
-pub sin_answer : (x h : Float) (r : Real) → T (fits binary64 x) → h ≡ Circular.sin x → r ≡ number_or_refused h → r ≡ sin_answer x
+pub sin_answer_lem : (x h : Float) (r : Real) → T (fits binary64 x) → h ≡ Circular.sin x → r ≡ number_or_refused h → r ≡ sin_answer x
 unfolding sin_answer
-sin_answer x h r t e f = let is = sine_is x t in f ∙ ap number_or_refused e ∙ answer (Circular.in_domain x) (Circular.sin x) is.outside (λ d. (is.inside d).number)
+sin_answer_lem x h r t e f = let is = sine_is x t in f ∙ ap number_or_refused e ∙ answer (Circular.in_domain x) (Circular.sin x) is.outside (λ d. (is.inside d).number)
 
-pub cos_answer : (x h : Float) (r : Real) → T (fits binary64 x) → h ≡ Circular.cos x → r ≡ number_or_refused h → r ≡ cos_answer x
+pub cos_answer_lem : (x h : Float) (r : Real) → T (fits binary64 x) → h ≡ Circular.cos x → r ≡ number_or_refused h → r ≡ cos_answer x
 unfolding cos_answer
-cos_answer x h r t e f = let is = cosine_is x t in f ∙ ap number_or_refused e ∙ answer (Circular.in_domain x) (Circular.cos x) is.outside (λ d. (is.inside d).number)
+cos_answer_lem x h r t e f = let is = cosine_is x t in f ∙ ap number_or_refused e ∙ answer (Circular.in_domain x) (Circular.cos x) is.outside (λ d. (is.inside d).number)
 
-pub asin_answer : (x h : Float) (r : Real) → T (fits binary64 x) → h ≡ Asin.asin x → r ≡ number_or_refused h → r ≡ asin_answer x
+pub asin_answer_lem : (x h : Float) (r : Real) → T (fits binary64 x) → h ≡ Asin.asin x → r ≡ number_or_refused h → r ≡ asin_answer x
 unfolding asin_answer
-asin_answer x h r t e f = let is = arcsine_is x t in f ∙ ap number_or_refused e ∙ answer (Asin.in_domain x) (Asin.asin x) is.outside (λ d. (is.inside d).number)
+asin_answer_lem x h r t e f = let is = arcsine_is x t in f ∙ ap number_or_refused e ∙ answer (Asin.in_domain x) (Asin.asin x) is.outside (λ d. (is.inside d).number)
 
-pub atan2_answer : (y x h : Float) (r : Real) → T (fits binary64 y) → T (fits binary64 x) → h ≡ Atan2.atan2 y x → r ≡ number_or_refused h → r ≡ atan2_answer y x
+pub atan2_answer_lem : (y x h : Float) (r : Real) → T (fits binary64 y) → T (fits binary64 x) → h ≡ Atan2.atan2 y x → r ≡ number_or_refused h → r ≡ atan2_answer y x
 unfolding atan2_answer
-atan2_answer y x h r ty tx e f = let is = arctangent_is y x ty tx in f ∙ ap number_or_refused e ∙ answer (Atan2.both_finite y x) (Atan2.atan2 y x) is.outside (λ d. (is.inside d).number)
+atan2_answer_lem y x h r ty tx e f = let is = arctangent_is y x ty tx in f ∙ ap number_or_refused e ∙ answer (Atan2.both_finite y x) (Atan2.atan2 y x) is.outside (λ d. (is.inside d).number)

@@ -213,6 +213,7 @@ arctangent_is y x ty tx = record { inside = λ f. subst (λ b. IsAngle y x (cond
 
     none : (b : Bool) → T (not b) → cond b number nan ≡ nan
     none false d = refl
+    none true d = elim d [ ]
 
 -- ---- what the code owes
 pub not-nan : (x : Float) → T (finite x) → T (not (is_nan x))

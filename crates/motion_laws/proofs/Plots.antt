@@ -143,9 +143,9 @@ hours_least d h later = go d.secs d.nanos (secs_few d h).0 (secs_few d h).1 late
     go (suc s) n a b later = interval_least (suc s) n a b (inl (positive s))
 
 -- ---- directions
-is_direction : {x : Float} → IsDirection x → T (is_direction (record { 0 = x }))
+is_direction_lem : {x : Float} → IsDirection x → T (is_direction (record { 0 = x }))
 unfolding is_direction
-is_direction {x} d = and_i (le Check.zero x) (lt x Check.full_turn) d.at_least d.below
+is_direction_lem {x} d = and_i (le Check.zero x) (lt x Check.full_turn) d.at_least d.below
 
 direction_fits : (c : Components) → T (finite c.north) → T (finite c.east) → T (fits binary64 (direction_of c).0)
 unfolding direction_of
@@ -176,8 +176,8 @@ module _ (own : Vessel) (second : Contact) (relative : Components) (ho : HeldVes
       let d = course_direction in
       let b = direction_small second.bearing hs.bearing sb in
       let half = add_small {p = 9} {q = 0} (lit≤ tt) (lit< tt) b half_turn-small in
-      let r = direction_small (record { 0 = reciprocal second.bearing.0 }) (reciprocal-fits second.bearing.0) (is_direction (reciprocal_range second.bearing.0 half.number)) in
-      let t = direction_small (target_of own relative).course d.1 (is_direction d.0) in
+      let r = direction_small (record { 0 = reciprocal second.bearing.0 }) (reciprocal-fits second.bearing.0) (is_direction_lem (reciprocal_range second.bearing.0 half.number)) in
+      let t = direction_small (target_of own relative).course d.1 (is_direction_lem d.0) in
       let a = sub_small {p = 9} {q = 0} (lit≤ tt) (lit< tt) r t in
       record {
         course = d.0;

@@ -18,7 +18,7 @@ use Rattle.sheet_record.specs.declared.Row.{Row}
 use Rattle.sheet_record.specs.declared.Readable.TheVariants.{Yes, Refused}
 use Rattle.sheet_record.specs.Record.{header_of, contact_count, rows_of, readable}
 use Rattle.encoding.specs.Encode.{word, word_bytes, wind_words, header_words, row_words, rows_words, bytes_of, encode}
-use Rattle.encoding.proofs.Rows.{bytes-length, rows-length, header_length, wind_length}
+use Rattle.encoding.proofs.Rows.{bytes-length, rows-length, header_length_lem, wind_length}
 use Rattle.sheet_laws.specs.RoundTrip.{Value, WindValue, HeaderValues, RowValues, AllRowValues, ReadsBack}
 use Rattle.sheet_laws.proofs.Groups.{row_of, groups, all_rows}
 
@@ -124,7 +124,7 @@ module _ (h : Header) (rs : List Row) where
   header v = rw (value_of 0 h.course v.course, value_of 1 h.speed v.speed, value_of 2 h.category v.category, value_of 3 h.visibility v.visibility, value_of 4 h.desired v.desired, value_of 5 h.least v.least, value_of 6 h.most v.most, value_of 7 h.cpa_limit v.cpa, value_of 8 h.tcpa_limit v.tcpa, tells h.wind rs, same_wind h.wind rs v.wind) refl
 
   many : length ws ≡ 9 + length winds + 6 * length rs
-  many = omega (arith, length-append (header_words h) (rows_words rs), header_length h, rows-length rs)
+  many = omega (arith, length-append (header_words h) (rows_words rs), header_length_lem h, rows-length rs)
 
   counted : contact_count ws ≡ length rs
   unfolding contact_count

@@ -48,21 +48,21 @@ module _ (n : ℕ) (few : n < 2 ^ 28) where
   below_turn : lt (scaled n) full_turn ≡ ltb n (360 * 1024)
   below_turn = lt-values (scaled n) full_turn false false n 1024 360 1 (lit< tt) (lit< tt) (exact n few) turn_is ∙ ap (λ m. ltb m (360 * 1024)) (mul-one n)
 
-  is_direction : is_direction (record { 0 = scaled n }) ≡ ltb n (360 * 1024)
+  is_direction_lem : is_direction (record { 0 = scaled n }) ≡ ltb n (360 * 1024)
   unfolding is_direction
-  is_direction = ap (λ b. b && lt (scaled n) full_turn) not_negative ∙ below_turn
+  is_direction_lem = ap (λ b. b && lt (scaled n) full_turn) not_negative ∙ below_turn
 
   is_within : (limit : Float) (most : ℕ) → HasValue limit false most 1 → in_range zero limit (scaled n) ≡ leb n (most * 1024)
   unfolding in_range
   is_within limit most is = ap (λ b. b && le (scaled n) limit) not_negative ∙ within limit most is
 
-  is_speed : is_speed (record { 0 = scaled n }) ≡ leb n (1000 * 1024)
+  is_speed_lem : is_speed (record { 0 = scaled n }) ≡ leb n (1000 * 1024)
   unfolding is_speed
-  is_speed = is_within fastest 1000 fastest_is
+  is_speed_lem = is_within fastest 1000 fastest_is
 
-  is_distance : is_distance (record { 0 = scaled n }) ≡ leb n (10000 * 1024)
+  is_distance_lem : is_distance (record { 0 = scaled n }) ≡ leb n (10000 * 1024)
   unfolding is_distance
-  is_distance = is_within farthest 10000 farthest_is
+  is_distance_lem = is_within farthest 10000 farthest_is
 
   pub accepted : Accepted n
-  accepted = record { direction = is_direction; speed = is_speed; distance = is_distance; wind = ap (λ b. check b Why.Angle ∷ []) is_direction }
+  accepted = record { direction = is_direction_lem; speed = is_speed_lem; distance = is_distance_lem; wind = ap (λ b. check b Why.Angle ∷ []) is_direction_lem }

@@ -25,7 +25,7 @@ pub bounds-rows-i : goal.bounds-rows-i
 bounds-rows-i c = omega (arith, c.loop-i-test.true, c.held-count.ensures)
 
 -- the rows' list has its room, and no text is longer than its own
-listed : (c : goal.After-put_row-t) → length c.args.t2.list ≡ max_contacts
+listed : (c : goal.After-put_row-t) → length c.args.rows.list ≡ max_contacts
 listed c = c.well_formed.1.0.1.1.1.0.1.0.1
 
 pub loop-i-preserved : goal.loop-i-preserved
@@ -33,7 +33,7 @@ loop-i-preserved c =
     (omega arith, fold_step _ _ _ _ _ _ _ c.loop-i-test.true (fits _ _ _ _ c.held-count.ensures (listed c)) c.put_row-t.ensures ∙ c.loop-i.invariant.1)
 
 -- the rows' list has its room, and no text is longer than its own
-listed_2 : (c : goal.After-loop-i) → length c.args.t2.list ≡ max_contacts
+listed_2 : (c : goal.After-loop-i) → length c.args.rows.list ≡ max_contacts
 listed_2 c = c.well_formed.1.0.1.1.1.0.1.0.1
 
 full : (c : goal.After-loop-i) → length c.args.t0.bytes ≡ room

@@ -1,0 +1,7 @@
+use Rattle.arguments.proofs.Checks.{one-check}
+use Rattle.arguments.specs.Check.{verdict}
+use borrow.Author.Rules.{rules}
+use Rattle.arguments.proofs.check_distance.Goals as goal
+
+pub returns : goal.returns
+returns c = one-check _ _ _ _ _ c.is_distance.ensures c.unless.ensures

@@ -1,0 +1,6 @@
+use Rattle.arguments.proofs.Checks.{encounter_checked}
+use borrow.Author.Rules.{rules}
+use Rattle.arguments.proofs.check_encounter.Goals as goal
+
+pub returns : goal.returns
+returns c = encounter_checked _ _ _ _ _ _ _ c.check_vessel.ensures c.check_contact.ensures c.check_vessel-2.ensures

@@ -1,0 +1,6 @@
+use Rattle.assessment.proofs.Assessed.{gathered}
+use borrow.Author.Rules.{rules}
+use Rattle.assessment.proofs.assess.assessed.Goals as goal
+
+pub returns : goal.returns
+returns c = gathered _ _ _ _ _ _ _ c.offset-offset.ensures c.relative_velocity-relative.ensures c.unit.ensures _ _ _ _ _ _ _ _ c.direction_of-relative_course.ensures c.hypot.ensures c.drift_of-drift.ensures c.approach_from.ensures c.nearest-cpa.ensures c.crossing.ensures c.ahead_of-ahead.ensures c.risk_of-risk.ensures

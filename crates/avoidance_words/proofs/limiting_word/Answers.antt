@@ -1,0 +1,6 @@
+use mathlib.Core.Path.{refl}
+use borrow.Author.Rules.{rules}
+use Rattle.avoidance_words.proofs.limiting_word.Goals as goal
+
+pub returns-in-Contact : goal.returns-in-Contact
+returns-in-Contact c = rw c.in-Contact.is refl

@@ -1,0 +1,8 @@
+use mathlib.Core.Path.{refl}
+use Rattle.clearing.specs.Clearing.{altered}
+use borrow.Author.Rules.{rules}
+use Rattle.choice.proofs.altered.Goals as goal
+
+pub returns : goal.returns
+unfolding altered
+returns c = rw c.from_degrees_wrapped.ensures refl

@@ -1,0 +1,17 @@
+use Prim.Native.Nat.{ℕ, ◌+◌, ◌-◌, ◌≤◌, ◌<◌, min}
+use mathlib.Core.Path.{◌≡◌, refl, sym, ◌∙◌, ap}
+use native.Mathlib.Omega.{arith}
+use borrow.Author.Rules.{rules}
+use lib.ListN.{length, length-map}
+use Rattle.clearing.specs.declared.Tally.TheVariants.{Free}
+use Rattle.room.specs.Room.{max_contacts}
+use Rattle.room.proofs.Counts.{fits}
+use Rattle.clearing.specs.Clearing.{passage_at, movings, cleared, clears_at}
+use Rattle.clearing.proofs.Loop.{left, step, done, stopped, whole}
+use Rattle.clearing.proofs.tallied.Given as goal
+
+abbrev pub invariant-loop-i : goal.invariant-loop-i
+invariant-loop-i l = (l.i ≤ l.count) × (left (passage_at l.own l.floor) l.scene.list l.count l.i l.tally ≡ left (passage_at l.own l.floor) l.scene.list l.count 0 Free)
+
+abbrev pub decreases-loop-i : goal.decreases-loop-i
+decreases-loop-i l = l.count - l.i

@@ -1,0 +1,12 @@
+use Rattle.colregs.specs.Colregs.{target_comes_up}
+use mathlib.Core.Path.{refl}
+use borrow.Author.Rules.{rules}
+use Rattle.colregs.proofs.encounter.target_comes_up.Goals as goal
+
+pub returns-then-f : goal.returns-then-f
+unfolding target_comes_up
+returns-then-f c = rw c.if-f.true c.abaft-astern.ensures
+
+pub returns-else-f : goal.returns-else-f
+unfolding target_comes_up
+returns-else-f c = rw c.if-f.false refl

@@ -1,0 +1,6 @@
+use mathlib.Core.Path.{refl}
+use borrow.Author.Rules.{rules}
+use Rattle.exports_course.proofs.motion_plot.Goals as goal
+
+pub returns : goal.returns
+returns c = rw (c.word.ensures, c.plot_words.ensures, c.target_from_plot.ensures, c.contact-2.ensures, c.contact.ensures, c.vessel.ensures) refl

@@ -1,0 +1,7 @@
+use Rattle.inverse.proofs.Arctangents.{all_cut}
+use native.Mathlib.Omega.{arith}
+use borrow.Author.Rules.{rules}
+use Rattle.inverse.proofs.cut.Goals as goal
+
+pub returns : goal.returns
+returns c = all_cut c.args.n c.args.places (omega arith) c.if-places-lt64.false

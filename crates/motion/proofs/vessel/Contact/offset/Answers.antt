@@ -1,0 +1,7 @@
+use Rattle.motion.specs.Vessel.{offset}
+use borrow.Author.Rules.{rules}
+use Rattle.motion.proofs.vessel.Contact.offset.Goals as goal
+
+pub returns : goal.returns
+unfolding offset
+returns c = c.resolved.ensures

@@ -1,0 +1,8 @@
+use mathlib.Core.Path.{refl}
+use Rattle.passages.specs.Passages.{moving}
+use borrow.Author.Rules.{rules}
+use Rattle.passages.proofs.moving_of.Goals as goal
+
+pub returns : goal.returns
+unfolding moving
+returns c = rw (c.velocity-velocity.ensures, c.offset-offset.ensures) refl

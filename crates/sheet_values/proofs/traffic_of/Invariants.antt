@@ -1,0 +1,13 @@
+use Rattle.std.proofs.Common.{◌≡◌, ℕ, ◌+◌, ◌-◌, ◌<◌, ◌≤◌, min, length, refl, arith, rules}
+use lib.ListN.{length-map}
+use Rattle.room.specs.Room.{max_contacts}
+use Rattle.traffic.specs.Traffic.{contacts}
+use Rattle.sheet_record.specs.Record.{rows}
+use Rattle.sheet_values.proofs.Filling.{Filled, none, more, filled}
+use Rattle.sheet_values.proofs.traffic_of.Given as goal
+
+abbrev pub invariant-loop-i : goal.invariant-loop-i
+invariant-loop-i l = (l.i ≤ l.n) × Filled l.rows.list l.t.list l.i
+
+abbrev pub decreases-loop-i : goal.decreases-loop-i
+decreases-loop-i l = l.n - l.i
