@@ -48,9 +48,9 @@ unfolding rows_words flat_map row_words
 rows-length [] = refl
 rows-length (r ∷ rs) = omega (arith, rows-length rs)
 
-pub header_length : (h : Header) → length (header_words h) ≡ 9 + length (wind_words h.wind)
+pub header_length_lem : (h : Header) → length (header_words h) ≡ 9 + length (wind_words h.wind)
 unfolding header_words
-header_length h = omega arith
+header_length_lem h = omega arith
 
 pub wind_length : (w : Wind) → length (wind_words w) ≤ 1
 wind_length Wind.Unknown = omega arith
@@ -62,5 +62,5 @@ both h rs t u r few et eu er =
     let a = bytes_of (header_words h) in
     let b = bytes_of (rows_words rs) in
     er ∙ ap (λ u. appended u b) (eu ∙ ap (λ t. appended t a) et) ∙ appended_twice [] a b
-    ∙ whole [] (a ++ b) (omega (arith, length-append a b, bytes-length (header_words h), header_length h, wind_length h.wind, bytes-length (rows_words rs), rows-length rs, few))
+    ∙ whole [] (a ++ b) (omega (arith, length-append a b, bytes-length (header_words h), header_length_lem h, wind_length h.wind, bytes-length (rows_words rs), rows-length rs, few))
     ∙ sym (bytes-append (header_words h) (rows_words rs))

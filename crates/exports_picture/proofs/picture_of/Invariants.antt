@@ -1,0 +1,14 @@
+use Prim.Native.Nat.{ℕ, ◌+◌, ◌-◌, ◌≤◌, ◌<◌, min}
+use mathlib.Core.Path.{◌≡◌, refl, ◌∙◌, ap}
+use mathlib.Core.List.{[], ◌∷◌}
+use native.Mathlib.Omega.{arith}
+use Rattle.picture.specs.Picture.{targets}
+use Rattle.exports_picture.specs.Words.{after}
+use Rattle.exports_picture.proofs.Making.{step, made}
+use Rattle.exports_picture.proofs.picture_of.Given as goal
+
+abbrev pub invariant-loop-i : goal.invariant-loop-i
+invariant-loop-i l = (1 ≤ l.i) × ((l.i - 1 ≤ l.n - 1) × (targets l.p ≡ after l.floats l.policy (targets l.initial.p) (l.i - 1)))
+
+abbrev pub decreases-loop-i : goal.decreases-loop-i
+decreases-loop-i l = l.n - l.i

@@ -1,0 +1,6 @@
+use mathlib.Core.Path.{refl}
+use borrow.Author.Rules.{rules}
+use Rattle.exports_ruling.proofs.colregs_precedence.Goals as goal
+
+pub returns : goal.returns
+returns c = rw (c.precedence.ensures, c.category.ensures) refl

@@ -1,0 +1,8 @@
+use mathlib.Core.Path.{refl}
+use Rattle.exports_ruling.specs.Words.{config}
+use borrow.Author.Rules.{rules}
+use Rattle.exports_ruling.proofs.colregs_ruling.Goals as goal
+
+pub returns : goal.returns
+unfolding config
+returns c = rw (c.word.ensures, c.ruling_words.ensures, c.rule_of_the_road.ensures, c.situation.ensures) refl

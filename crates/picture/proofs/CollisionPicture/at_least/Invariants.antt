@@ -1,0 +1,17 @@
+use Prim.Native.Nat.{ℕ, ◌+◌, ◌-◌, ◌≤◌, ◌<◌, min}
+use mathlib.Core.Path.{◌≡◌, refl, sym, ◌∙◌, ap}
+use native.Mathlib.Omega.{arith}
+use lib.ListN.{length, length-map}
+use Rattle.room.specs.Room.{max_contacts}
+use mathlib.Core.List.{[]}
+use Rattle.room.proofs.Counts.{fits}
+use Rattle.picture.specs.Picture.{targets}
+use Rattle.picture.proofs.Loops.{left, step, done}
+use borrow.Author.Rules.{rules}
+use Rattle.picture.proofs.CollisionPicture.at_least.Given as goal
+
+abbrev pub invariant-loop-i : goal.invariant-loop-i
+invariant-loop-i l = (l.i ≤ l.count) × ((length (targets l.out) ≤ l.i) × (left l.least l.self.list l.count l.i (targets l.out) ≡ left l.least l.self.list l.count 0 []))
+
+abbrev pub decreases-loop-i : goal.decreases-loop-i
+decreases-loop-i l = l.count - l.i

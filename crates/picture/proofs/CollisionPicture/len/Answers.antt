@@ -1,0 +1,15 @@
+use Prim.Native.Nat.{ℕ, ◌+◌, ◌-◌, ◌≤◌, ◌<◌, min}
+use mathlib.Core.Path.{◌≡◌, refl, sym, ◌∙◌, ap}
+use native.Mathlib.Omega.{arith}
+use lib.ListN.{length, length-map}
+use Rattle.room.specs.Room.{max_contacts}
+use Rattle.picture.specs.Picture.{targets}
+use Rattle.picture.proofs.Loops.{counted}
+use Rattle.picture.proofs.CollisionPicture.len.Goals as goal
+
+room : (c : goal.After-held) → length c.args.self.list ≡ max_contacts
+room c = c.well_formed.0.1.1.1.0.1.0.1
+
+pub returns : goal.returns
+unfolding targets
+returns c = counted _ _ _ c.held.ensures (room c)

@@ -1,0 +1,12 @@
+use mathlib.Core.Path.{refl}
+use borrow.Author.Rules.{rules}
+use Rattle.targets.proofs.keep.Goals as goal
+
+pub returns-then-outranks : goal.returns-then-outranks
+returns-then-outranks c = rw (c.in-Of.is, ← c.outranks.ensures, c.if-outranks.true) refl
+
+pub returns-in-Nothing : goal.returns-in-Nothing
+returns-in-Nothing c = rw c.in-Nothing.is refl
+
+pub returns-else-outranks : goal.returns-else-outranks
+returns-else-outranks c = rw (c.in-Of.is, ← c.outranks.ensures, c.if-outranks.false) refl
