@@ -111,6 +111,7 @@ same_lines f g (r ∷ rs) e = ap (λ l. l ++ flat_map f rs) (e r (Memᴰ.head re
 in_map : (r : Row) (rs : List Row) → Memᴰ r rs → Memᴰ (entry_of r) (map entry_of rs)
 in_map r (x ∷ rs) (Memᴰ.head e) = Memᴰ.head (ap entry_of e)
 in_map r (x ∷ rs) (Memᴰ.tail m) = Memᴰ.tail (in_map r rs m)
+in_map r [] x' = elim x' [ ]
 
 module _ (s : List ℕ) (ok : sheet_verdict s ≡ Verdict.Accepted) where
   abbrev h : Header

@@ -1,0 +1,27 @@
+use mathlib.Core.Path.{◌≡◌, refl, sym, ap, ◌∙◌}
+use lib.ListN.{get_or}
+use Rattle.exports_avoidance.specs.Words.{ruled_constraints, ruled_with}
+use Rattle.exports_avoidance.proofs.Made.{own_is, ruled_is}
+use borrow.Author.Rules.{rules}
+use Rattle.exports_avoidance.proofs.avoidance_ruled.Goals as goal
+use Rattle.exports_avoidance.proofs.avoidance_ruled.Lts as at
+
+-- the constraints that were made
+made : (c : goal.After-word_at) → ruled_constraints c.args.codes c.args.floats.now ≡ c.constraints_of.result
+unfolding ruled_constraints
+made c = rw (c.constraints_of.ensures, c.float_at.ensures, c.float_at-most.ensures, c.float_at-least.ensures) refl
+
+pub returns-in-Of : goal.returns-in-Of
+returns-in-Of c =
+    c.word_at.ensures ∙ ap (λ l. get_or l c.args.part 0)
+    (ruled_is c.args.codes c.args.count c.args.floats.now _ _ (made c ∙ c.in-Of.is) _ _ _ _ _ _ _ _ _
+    (own_is c.args.codes c.args.count c.args.floats.now _ _ (made c ∙ c.in-Of.is) _ _ _ _ c.party.ensures c.float_at-in-Of.ensures c.float_at-in-Of-2.ensures c.float_at-in-Of-3.ensures)
+    c.traffic_of.ensures.counted c.traffic_of.ensures.listed c.visibility.ensures c.perhaps.ensures c.float_at-in-Of-4.ensures c.float_at-in-Of-5.ensures c.ruled_search.ensures.0 c.ruled_words.ensures)
+
+-- the constraints that were made
+made_2 : (c : goal.After-word_at-in-Refused) → ruled_constraints c.args.codes c.args.floats.now ≡ c.constraints_of.result
+unfolding ruled_constraints
+made_2 c = rw (c.constraints_of.ensures, c.float_at.ensures, c.float_at-most.ensures, c.float_at-least.ensures) refl
+
+pub returns-in-Refused : goal.returns-in-Refused
+returns-in-Refused c = rw (c.word_at-in-Refused.ensures, c.refused.ensures) (ap (λ a. get_or (ruled_with a c.args.codes c.args.count c.args.floats.now) c.args.part 0) (sym (made_2 c ∙ c.in-Refused.is)))

@@ -1,0 +1,29 @@
+use Prim.Native.Nat.{◌≤◌, ◌<◌, min}
+use mathlib.Core.Path.{◌≡◌, refl, sym, ap, ◌∙◌}
+use native.Mathlib.Omega.{arith}
+use lib.ListN.{length, length-take}
+use Rattle.exports_report.proofs.Copying.{no_room, with_room}
+use borrow.Author.Rules.{rules}
+use Rattle.exports_report.proofs.encounter_report.Goals as goal
+
+pub returns-then-n-out : goal.returns-then-n-out
+returns-then-n-out c =
+    let held = no_room _ _ _ (c.size-n.ensures ∙ ap length c.report-t.ensures) c.if-n-out.true in
+    record { counted = held.0; filled = held.1 }
+
+pub slice_bounds-bytes-end : goal.slice_bounds-bytes-end
+slice_bounds-bytes-end c =
+    omega (arith, c.size-n.ensures, length-take c.report-t.result.len c.report-t.result.bytes)
+
+pub slice_bounds-copy-end : goal.slice_bounds-copy-end
+slice_bounds-copy-end c =
+    omega (arith, c.size-n.ensures, length-take c.report-t.result.len c.report-t.result.bytes, length-take c.size-n.result c.report-t.result.bytes)
+
+pub copy-requires : goal.copy-requires
+copy-requires c =
+    omega (arith, c.if-n-out.false, length-take c.size-n.result c.report-t.result.bytes)
+
+pub returns : goal.returns
+returns c =
+    let held = with_room _ _ _ (c.size-n.ensures ∙ ap length c.report-t.ensures) c.report-t.result.bytes c.report-t.result.len c.report-t.ensures _ c.if-n-out.false c.copy.ensures in
+    record { counted = held.0; filled = held.1 }
