@@ -3,9 +3,9 @@
 set -eu
 cd "$(dirname "$0")/.."
 
-rt staticlib exports_report
+(cd crates/exports_report && rt lib)
 mkdir -p target/examples
-cc -std=c11 -Wall -Wextra -Werror -O2 -Iinclude -o target/examples/report examples/report.c target/staticlib/libexports_report.a
+cc -std=c11 -Wall -Wextra -Werror -O2 -Iinclude -o target/examples/report examples/report.c crates/exports_report/out/libexports_report.a
 cargo build --quiet --release --manifest-path examples/rust/Cargo.toml --target-dir target/examples/rust
 
 for program in target/examples/report target/examples/rust/release/encounter-report; do

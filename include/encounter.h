@@ -1,6 +1,6 @@
 /* The encounter module's C interface: the report on an encounter sheet.
  *
- * Link with the archive that `rt staticlib exports_report` writes (target/staticlib/libexports_report.a). Nothing else is needed.
+ * Link with the archive that `rt lib` writes in crates/exports_report (out/libexports_report.a). Nothing else is needed.
  */
 #ifndef ENCOUNTER_H
 #define ENCOUNTER_H

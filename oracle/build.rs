@@ -38,14 +38,62 @@ fn main() {
     copy_listed(&root);
 }
 
+/// A crate is a library or a static library, and most of these are libraries, on which the program that replays rests. So the archives are built
+/// in a copy of the crates, outside the repository, whose crates.txt calls them static libraries and has no programs.
 fn build_archives(root: &Path) {
+    let copy = env::temp_dir().join("dezhrovel-archives");
+    let listed: String = fs::read_to_string(root.join("crates.txt")).unwrap().lines().filter_map(static_in).collect();
+    fs::create_dir_all(&copy).unwrap();
+    fs::write(copy.join("crates.txt"), listed).unwrap();
+    copy_crates(&root.join("crates"), &copy.join("crates"));
     for name in ARCHIVES {
-        let status = Command::new("rt").args(["staticlib", name]).current_dir(root).status().expect("`rt` builds the port's archives");
-        assert!(status.success(), "rt staticlib {name} failed");
+        let folder = copy.join("crates").join(name);
+        let status = Command::new("rt").arg("lib").current_dir(&folder).status().expect("`rt` builds the port's archives");
+        assert!(status.success(), "rt lib failed in {name}");
+        println!("cargo:rustc-link-search=native={}", folder.join("out").display());
         println!("cargo:rustc-link-lib=static={name}");
     }
-    println!("cargo:rustc-link-search=native={}", root.join("target/staticlib").display());
-    println!("cargo:rerun-if-changed={}", root.join("crates").display());
+    println!("cargo:rerun-if-changed={}", root.join("crates.txt").display());
+    for entry in fs::read_dir(root.join("crates")).unwrap() {
+        println!("cargo:rerun-if-changed={}", entry.unwrap().path().join("src").display());
+    }
+}
+
+/// A line of crates.txt as the copy has it: none for a program, which nothing here links.
+fn static_in(line: &str) -> Option<String> {
+    let Some((head, rest)) = line.split_once(':') else { return Some(format!("{line}\n")) };
+    let name = head.split_whitespace().next().unwrap_or("");
+    if name.ends_with("_main") || name == "encounter" {
+        return None;
+    }
+    let kind = if ARCHIVES.contains(&name) { " staticlib" } else { "" };
+    Some(format!("{name}{kind}:{rest}\n"))
+}
+
+/// Sources, definitions and proofs, written only where they differ, so that what an earlier build proved stays.
+fn copy_crates(from: &Path, to: &Path) {
+    fs::create_dir_all(to).unwrap();
+    for entry in fs::read_dir(to).unwrap() {
+        let entry = entry.unwrap();
+        if entry.file_name() != "out" && !from.join(entry.file_name()).exists() {
+            let gone = entry.path();
+            if gone.is_dir() { fs::remove_dir_all(gone).unwrap() } else { fs::remove_file(gone).unwrap() }
+        }
+    }
+    for entry in fs::read_dir(from).unwrap() {
+        let entry = entry.unwrap();
+        let (name, source) = (entry.file_name(), entry.path());
+        if source.is_dir() {
+            if name != "out" && name != "must-fail" {
+                copy_crates(&source, &to.join(&name));
+            }
+        } else {
+            let text = fs::read(&source).unwrap();
+            if fs::read(to.join(&name)).ok().as_ref() != Some(&text) {
+                fs::write(to.join(&name), text).unwrap();
+            }
+        }
+    }
 }
 
 fn copy_listed(root: &Path) {

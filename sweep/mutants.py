@@ -3,7 +3,7 @@
     python3 sweep/mutants.py [N [CRATE...]]
     python3 sweep/mutants.py program
 
-Copies the repository to target/sweep, puts N faults (default 240) there as must-fail edits, spread over all crates with code or the named ones, and runs
+Copies the repository to a folder beside the temporary files, puts N faults (default 240) there as must-fail edits, spread over all crates with code or the named ones, and runs
 `rt must-fail`. A fault is one of: a comparison made strict, made weak or turned round; the operands of a difference or a quotient
 swapped; a constant one more; a statement dropped; two cases swapped; `&` for `|`; true for false. The choice is fixed, so that a run can be
 repeated. A fault that the compiler does not take is not counted. Survivors are printed with their line. Each must be shown to change no
@@ -18,10 +18,11 @@ import re
 import shutil
 import subprocess
 import sys
+import tempfile
 from pathlib import Path
 
 ROOT = Path(__file__).resolve().parent.parent
-COPY = ROOT / "target" / ("sweep-program" if sys.argv[1:] == ["program"] else "sweep")
+COPY = Path(tempfile.gettempdir()) / ("dezhrovel-sweep-program" if sys.argv[1:] == ["program"] else "dezhrovel-sweep")
 
 # Functions that promise nothing of their outcome, and why a fault there changes no answer: the contract of each caller is an equation, which
 # is proved for every outcome of them.
@@ -133,12 +134,7 @@ def copied():
     shutil.rmtree(COPY, ignore_errors=True)
     COPY.mkdir(parents=True)
     shutil.copy(ROOT / "crates.txt", COPY)
-    shutil.copytree(ROOT / "crates", COPY / "crates", ignore=shutil.ignore_patterns("must-fail"))
-    (COPY / "target").mkdir()
-    for part in os.listdir(ROOT / "target"):
-        if part not in ("sweep", "sweep-program", "examples", "goals", "must-fail"):
-            source = ROOT / "target" / part
-            (shutil.copytree if source.is_dir() else shutil.copy)(source, COPY / "target" / part)
+    shutil.copytree(ROOT / "crates", COPY / "crates", ignore=shutil.ignore_patterns("must-fail"), symlinks=True)
 
 
 def found(old, new):
@@ -146,14 +142,16 @@ def found(old, new):
     source = COPY / "crates" / "encounter" / "src" / "main.rt"
     text = (ROOT / "crates" / "encounter" / "src" / "main.rt").read_text()
     source.write_text(text.replace(old, new))
-    made = subprocess.run(["rt", "check", "encounter"], cwd=COPY, capture_output=True, text=True)
-    if "encounter NOT PROVED" in made.stdout:
+    folder = COPY / "crates" / "encounter"
+    if subprocess.run(["rt", "check"], cwd=folder, capture_output=True).returncode != 0:
         return "proof"
-    if made.returncode != 0:
+    subprocess.run(["rt", "run"], cwd=folder, stdin=open(folder / "stdin", "rb"), capture_output=True)
+    ran = subprocess.run([folder / "out" / "encounter"], stdin=open(folder / "stdin", "rb"), capture_output=True)
+    if ran.returncode != 0 or ran.stdout != (folder / "stdout").read_bytes():
         return "stored output"
     compare = [ROOT / "oracle" / "target" / "release" / "oracle", "compare", "3000", "sheets"]
     try:
-        run = subprocess.run(compare, cwd=ROOT / "oracle", env=dict(os.environ, ENCOUNTER=str(COPY / "target" / "bin" / "encounter")), capture_output=True, timeout=120)
+        run = subprocess.run(compare, cwd=ROOT / "oracle", env=dict(os.environ, ENCOUNTER=str(folder / "out" / "encounter")), capture_output=True, timeout=120)
     except subprocess.TimeoutExpired:
         return "comparison"
     return "comparison" if run.returncode != 0 else None
@@ -183,7 +181,7 @@ def main():
         folder.mkdir(exist_ok=True)
         pairs = f"old: {old}\nnew: {new}\n" + (f"old: {second[0]}\nnew: {second[1]}\n" if second else "")
         (folder / f"m{i:04}.edit").write_text(f"file: {file}\n{pairs}")
-        named[f"{crate}/m{i:04}"] = (f"crates/{crate}/{file}", number, kind, old.strip(), new.strip())
+        named[f"{crate}/m{i:04}.edit"] = (f"crates/{crate}/{file}", number, kind, old.strip(), new.strip())
     run = subprocess.run(["rt", "must-fail", *sys.argv[2:]], cwd=COPY, capture_output=True, text=True)
     refused = re.findall(r"must-fail (\S+): refused", run.stdout)
     survived = re.findall(r"must-fail (\S+): NOT REFUSED", run.stdout)

@@ -184,7 +184,7 @@ fn hexadecimal(bytes: &[u8]) -> String {
 
 /// What starts the program: the words in ENCOUNTER, of which the last is the program, or the one below the repository's root.
 fn command() -> Vec<String> {
-    let built = concat!(env!("CARGO_MANIFEST_DIR"), "/../target/bin/encounter");
+    let built = concat!(env!("CARGO_MANIFEST_DIR"), "/../crates/encounter/out/encounter");
     std::env::var("ENCOUNTER").map_or_else(|_| vec![built.to_string()], |words| words.split_whitespace().map(str::to_string).collect())
 }
 

@@ -9,7 +9,7 @@ use native.Mathlib.Omega.{arith}
 use lib.Dec.{T, lt→ltb, ltb→lt, lit<, lit≤}
 use lib.Pow.{pow_pos, pow-add, pow_mono}
 use lib.Ieee.{Float, nan, inf, fin, binary64, fits, up, down, add, sub, neg, rem, round, lt, le, eq, is_nan, of_bits}
-use lib.Ieee.Exact.{HasValue, round_exact}
+use lib.Ieee.Exact.{round_exact}
 use lib.Ieee.Fits.{down_pos, add-fits, rem-fits, cond-fits}
 use lib.Ieee.Scale.{finite, grid}
 use Rattle.laws.specs.Units.{Units, sign, units_of}

@@ -1,6 +1,6 @@
 -- What the code of checks owes: one check, two checks, one list after another, an encounter's.
-use mathlib.Core.Path.{◌≡◌, refl, sym, ap, ◌∙◌}
-use mathlib.Core.Bool.{Bool, true, false, cond}
+use mathlib.Core.Path.{◌≡◌, refl, ap, ◌∙◌}
+use mathlib.Core.Bool.{Bool, cond}
 use mathlib.Core.List.{List, [], ◌∷◌, ◌++◌}
 use Rattle.elementary.specs.declared.error.Refusal.{Refusal}
 use Rattle.arguments.specs.declared.Verdict.{Verdict}

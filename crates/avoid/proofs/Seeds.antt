@@ -1,16 +1,16 @@
 -- On accepted arguments what is computed is the plain definition: a seed that is not above most is an alteration that fits, as every trial is.
 use mathlib.Core.Path.{◌≡◌, refl, sym, ap, ◌∙◌, subst}
-use mathlib.Core.Bool.{Bool, true, false, cond, ◌&&◌}
+use mathlib.Core.Bool.{Bool, true, false, cond}
 use mathlib.Core.List.Memᴰ
-use mathlib.Core.List.{List, [], ◌∷◌, ◌++◌, Memᴰ}
+use mathlib.Core.List.{[], ◌∷◌, ◌++◌, Memᴰ}
 use mathlib.Core.Logic.{⊎_elim}
 use Prim.Native.Nat.{ℕ, ◌*◌, ◌^◌, ◌≤◌}
 use native.Mathlib.Omega.{arith}
 use lib.IntN.{pos}
-use lib.Dec.{T, lit≤, ltb, eqb}
+use lib.Dec.{T, lit≤}
 use lib.Ieee.{Float, fin, binary64, lt, le, fits, of_bits}
 use lib.Ieee.Scale.{finite}
-use lib.Ieee.Fits.{and_l, and_r, sub-fits}
+use lib.Ieee.Fits.{sub-fits}
 use Rattle.laws.specs.Ops.{◌⊖◌}
 use Rattle.laws.specs.Size.{Small}
 use Rattle.laws.specs.Units.{sign, units_of}
@@ -23,7 +23,6 @@ use Rattle.math.specs.Sign.{abs}
 use Rattle.math.proofs.Sign.{abs-fits, abs-units, at_most_size}
 use Rattle.angle.specs.Fold.{half_turn, full_turn, whole_fold, half_fold}
 use Rattle.angle.proofs.Range.{whole_fold-fits}
-use Rattle.elementary.specs.Range.{in_range}
 use Rattle.elementary.specs.declared.error.Refusal.{Refusal}
 use Rattle.motion.specs.declared.units.Direction.{Direction}
 use Rattle.motion.specs.declared.units.Distance.{Distance}
@@ -41,7 +40,7 @@ use Rattle.course.specs.Course.{course_answer}
 use Rattle.manoeuvre.specs.declared.Side.{Side}
 use Rattle.manoeuvre.specs.declared.Side.TheVariants.{Starboard, Port}
 use Rattle.constraints.specs.declared.ManoeuvreConstraints.{ManoeuvreConstraints}
-use Rattle.constraints.specs.Constraints.{permits_starboard, permits_port, reversal, alteration_checks, rate_checks, constraint_checks}
+use Rattle.constraints.specs.Constraints.{permits_starboard, permits_port, constraint_checks}
 use Rattle.trials.specs.Trials.{trials, Limits}
 use Rattle.clearing.specs.declared.Clearance.{Clearance}
 use Rattle.clearing.specs.Clearing.{floor_of, moving}

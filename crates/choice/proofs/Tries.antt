@@ -2,7 +2,7 @@
 use mathlib.Core.Path.{◌≡◌, refl, sym, ap, ◌∙◌}
 use mathlib.Core.Bool.{Bool, true, false, cond, true≢false}
 use mathlib.Core.List.{List, [], ◌∷◌}
-use Prim.Native.Nat.{ℕ, suc, ◌+◌, ◌≤◌, ◌<◌}
+use Prim.Native.Nat.{ℕ, suc, ◌+◌}
 use native.Mathlib.Numerals.{add-one}
 use lib.ListN.{length, drop}
 use lib.Seq.{drop-length}
@@ -14,7 +14,7 @@ use Rattle.motion.specs.Vessel.{velocity}
 use Rattle.passages.specs.declared.Moving.{Moving}
 use Rattle.clearing.specs.declared.Passing.{Passing}
 use Rattle.clearing.specs.declared.Clearance.{Clearance}
-use Rattle.clearing.specs.declared.Clearance.TheVariants.{No, Yes}
+use Rattle.clearing.specs.declared.Clearance.TheVariants.{Yes}
 use Rattle.clearing.specs.Clearing.{altered, clears_at}
 use Rattle.manoeuvre.specs.declared.Side.{Side}
 use Rattle.manoeuvre.specs.declared.Side.TheVariants.{Starboard, Port}
@@ -22,7 +22,7 @@ use Rattle.choice.specs.declared.Sides.{Sides}
 use Rattle.choice.specs.declared.Chosen.{Chosen}
 use Rattle.choice.specs.declared.Choice.{Choice}
 use Rattle.choice.specs.declared.Choice.TheVariants.{Nothing, Of}
-use Rattle.choice.specs.Choice.{signed, chosen, tried, or_else, is_found, both, or_both, between, clears_on, tried_both}
+use Rattle.choice.specs.Choice.{signed, chosen, tried, or_else, is_found, both, or_both, clears_on, tried_both}
 
 pub to_port : (side : Side) (x r : Float) → side ≡ Port → r ≡ signed Port x → r ≡ signed side x
 to_port side x r e q = q ∙ ap (λ s. signed s x) (sym e)

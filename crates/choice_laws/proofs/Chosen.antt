@@ -1,6 +1,6 @@
 -- Document 01's choice is the smallest trial on a permitted side that clears, starboard of equal ones; and it is none exactly if no trial on a permitted side clears.
 use mathlib.Core.Path.{◌≡◌, refl, sym, ap, ◌∙◌, subst}
-use mathlib.Core.Bool.{Bool, true, false, cond, true≢false}
+use mathlib.Core.Bool.{Bool, true, false, cond}
 use mathlib.Core.Logic.{◌⊎◌, inl, inr, ⊎_elim}
 use mathlib.Core.List.Memᴰ
 use mathlib.Core.List.{List, [], ◌∷◌, Memᴰ}
@@ -13,12 +13,12 @@ use Rattle.laws.proofs.Order.{lt_trans, eq-lt, apart}
 use Rattle.manoeuvre.specs.declared.Side.{Side}
 use Rattle.manoeuvre.specs.declared.Side.TheVariants.{Starboard, Port}
 use Rattle.clearing.specs.declared.Clearance.{Clearance}
-use Rattle.clearing.specs.declared.Clearance.TheVariants.{No, Yes}
+use Rattle.clearing.specs.declared.Clearance.TheVariants.{No}
 use Rattle.choice.specs.declared.Sides.{Sides}
 use Rattle.choice.specs.declared.Chosen.{Chosen}
 use Rattle.choice.specs.declared.Choice.{Choice}
 use Rattle.choice.specs.declared.Choice.TheVariants.{Nothing, Of}
-use Rattle.choice.specs.Choice.{first, smaller, side_choice, choice}
+use Rattle.choice.specs.Choice.{smaller, side_choice, choice}
 use Rattle.choice_laws.specs.Smallest.{IsFirst, allows, IsChoice}
 use Rattle.choice_laws.proofs.First.{not_found, same_choice, none, is_first}
 

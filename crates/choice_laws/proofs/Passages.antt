@@ -3,15 +3,15 @@ use mathlib.Core.Path.{◌≡◌, refl, sym, ap, ◌∙◌, subst}
 use mathlib.Core.Bool.{Bool, true, false, cond, not, true≢false}
 use mathlib.Core.Logic.{◌⊎◌, inl, inr, ⊎_elim}
 use mathlib.Core.List.Memᴰ
-use mathlib.Core.List.{List, [], ◌∷◌, ◌++◌, append_assoc, append-nil, Memᴰ, nil≢cons}
-use Prim.Native.Nat.{ℕ, suc, ◌+◌}
+use mathlib.Core.List.{List, [], ◌∷◌, ◌++◌, append_assoc, append-nil, Memᴰ}
+use Prim.Native.Nat.{suc, ◌+◌}
 use native.Mathlib.Numerals.{add-one}
 use lib.ListN.{length, length-append}
 use lib.Dec.{T}
 use lib.Ieee.{Float, lt, le, is_nan}
 use Rattle.laws.proofs.Bools.{holds, fails}
 use Rattle.laws.proofs.Members.{mem_last}
-use Rattle.laws.proofs.Order.{lt_not_self, le_of_lt_float, lt_le_trans, le_trans_float, le-or-lt}
+use Rattle.laws.proofs.Order.{lt_not_self, le_of_lt_float, lt_le_trans, le-or-lt}
 use Rattle.motion.specs.declared.units.Distance.{Distance}
 use Rattle.manoeuvre.specs.declared.Limiting.TheVariants as Limiting
 use Rattle.passages.specs.declared.Passage.{Passage}

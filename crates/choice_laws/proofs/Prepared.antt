@@ -2,11 +2,11 @@
 use mathlib.Core.Path.{◌≡◌, refl, sym, ap, ◌∙◌, subst}
 use mathlib.Core.Bool.{Bool, true, false, not, cond}
 use mathlib.Core.List.Memᴰ
-use mathlib.Core.List.{List, [], ◌∷◌, ◌++◌, map, map-map, Memᴰ}
+use mathlib.Core.List.{List, [], ◌∷◌, map, map-map, Memᴰ}
 use lib.Dec.{T, lit≤, lit<}
-use lib.Ieee.{Float, nan, inf, fin, binary64, lt, le, is_nan}
+use lib.Ieee.{Float, nan, inf, fin, lt, le, is_nan}
 use lib.Ieee.Bits.{is_true}
-use lib.Ieee.Fits.{add-fits, and_i}
+use lib.Ieee.Fits.{and_i}
 use lib.Ieee.Scale.{finite}
 use Rattle.laws.specs.Ops.{◌⊕◌}
 use Rattle.laws.specs.Size.{Small}
@@ -16,26 +16,22 @@ use Rattle.angle.specs.Fold.{whole_fold}
 use Rattle.angle.proofs.Range.{whole_fold_range, whole_fold-fits}
 use Rattle.arguments.specs.Check as Check
 use Rattle.arguments.specs.Check.{verdict, is_direction, encounter_checks}
-use Rattle.arguments.specs.declared.Verdict.{Verdict}
 use Rattle.arguments.specs.declared.Verdict.TheVariants.{Accepted, Refused}
 use Rattle.motion.specs.declared.units.Distance.{Distance}
 use Rattle.motion.specs.declared.vessel.Vessel.{Vessel}
 use Rattle.motion.specs.declared.vessel.Components.{Components}
-use Rattle.motion.specs.Vessel.{velocity, direction_of, offset, difference, relative_velocity}
+use Rattle.motion.specs.Vessel.{velocity, direction_of, offset, relative_velocity}
 use Rattle.relative_motion.specs.declared.approach.Approach.{Approach}
 use Rattle.relative_motion.specs.declared.approach.Approach.TheVariants.{Closing, Opening, Stationary}
 use Rattle.relative_motion.specs.declared.approach.CpaAnswer.{CpaAnswer}
 use Rattle.relative_motion.specs.declared.approach.CpaAnswer.TheVariants as CpaAnswer
 use Rattle.relative_motion.specs.Approach.{stationary_knots, relative_speed, closing_rate, time_of, time_to_go, closest, approach_from, approach, passing_in, cpa_by, cpa_answer}
 use Rattle.root.specs.Hypot.{hypot}
-use Rattle.motion_laws.specs.Sound.{HeldVessel, AllGood, FiniteCpa}
+use Rattle.motion_laws.specs.Sound.{AllGood, FiniteCpa}
 use Rattle.motion_laws.proofs.Sizes.{Sized, sized, direction_small}
 use Rattle.motion_laws.proofs.Finite.{not-closing, cpa_finite}
 use Rattle.passages.specs.declared.Target.{Target}
-use Rattle.passages.specs.declared.Moving.{Moving}
-use Rattle.passages.specs.declared.Passage.{Passage}
 use Rattle.passages.specs.declared.Passage.TheVariants.{Blocked, At}
-use Rattle.clearing.specs.declared.Clearance.{Clearance}
 use Rattle.clearing.specs.Clearing.{altered, floor_of, passed, passed_by, passage, clearing, clears, moving, passage_at, clears_at}
 use Rattle.choice_laws.specs.Closest.{Real}
 use Rattle.choice_laws.specs.Fit.{FitVessel, FitTarget, FitTargets}

@@ -5,7 +5,7 @@ use mathlib.Core.List.{List, [], ◌∷◌, map, Memᴰ}
 use Prim.Native.Nat.{ℕ, ◌*◌, ◌^◌, ◌≤◌}
 use lib.Dec.{T, lit≤}
 use lib.IntN.{pos}
-use lib.Ieee.{Float, binary64, lt, le, neg, fits, of_bits, of_int}
+use lib.Ieee.{Float, binary64, lt, fits, of_bits, of_int}
 use lib.Ieee.Fits.{add-fits}
 use Rattle.laws.specs.Ops.{◌⊕◌}
 use Rattle.laws.specs.Fold.{fold}
@@ -14,19 +14,18 @@ use Rattle.laws.proofs.Order.{le_trans_float}
 use Rattle.laws.proofs.Size.{small_of_tests, neg_small}
 use Rattle.motion.specs.declared.units.Distance.{Distance}
 use Rattle.motion.specs.declared.vessel.Vessel.{Vessel}
-use Rattle.motion.specs.Vessel.{velocity}
 use Rattle.manoeuvre.specs.declared.Side.{Side}
 use Rattle.manoeuvre.specs.declared.Side.TheVariants.{Starboard, Port}
-use Rattle.trials.specs.Trials.{last, trial, trials, half_turn, Limits, IsTrialList}
+use Rattle.trials.specs.Trials.{trial, trials, half_turn, Limits}
 use Rattle.trials.proofs.Climbing.{is_trial_list}
 use Rattle.trials.proofs.Listed.{entry, ascending}
 use Rattle.passages.specs.declared.Target.{Target}
 use Rattle.clearing.specs.declared.Clearance.{Clearance}
-use Rattle.clearing.specs.Clearing.{altered, floor_of, clears, moving, clears_at}
+use Rattle.clearing.specs.Clearing.{floor_of, moving}
 use Rattle.choice.specs.declared.Sides.{Sides}
 use Rattle.choice.specs.declared.Choice.{Choice}
 use Rattle.choice.specs.declared.Choice.TheVariants.{Nothing, Of}
-use Rattle.choice.specs.Choice.{signed, chosen, or_first, first, smaller, side_choice, choice, trial_clears, choice_for, clears_on, between, smallest}
+use Rattle.choice.specs.Choice.{signed, chosen, or_first, first, smaller, side_choice, choice, trial_clears, choice_for, clears_on, smallest}
 use Rattle.choice_laws.specs.Fit.{FitVessel, FitTargets}
 use Rattle.choice_laws.proofs.Prepared.{same_clears}
 use Rattle.choice_laws.proofs.Smallest.{between_is_choice}

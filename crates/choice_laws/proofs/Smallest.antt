@@ -1,7 +1,7 @@
 -- Trying both sides by magnitude, starboard first, gives document 01's choice on an ascending list: the first that clears on each permitted side, the smaller of the two, starboard on equality.
-use mathlib.Core.Path.{◌≡◌, refl, sym, ap, ◌∙◌, subst}
+use mathlib.Core.Path.{◌≡◌, refl, sym, ap, ◌∙◌}
 use mathlib.Core.Bool.{Bool, true, false, cond}
-use mathlib.Core.List.{List, [], ◌∷◌, Memᴰ}
+use mathlib.Core.List.{List, [], ◌∷◌}
 use lib.Dec.{T}
 use lib.Ieee.{Float, lt}
 use lib.Ieee.Bits.{is_true}
@@ -18,7 +18,7 @@ use Rattle.choice.specs.declared.Sides.{Sides}
 use Rattle.choice.specs.declared.Chosen.{Chosen}
 use Rattle.choice.specs.declared.Choice.{Choice}
 use Rattle.choice.specs.declared.Choice.TheVariants.{Nothing, Of}
-use Rattle.choice.specs.Choice.{chosen, or_first, first, smaller, side_choice, choice, tried, or_else, both, or_both, between}
+use Rattle.choice.specs.Choice.{chosen, first, smaller, side_choice, choice, tried, or_else, both, or_both, between}
 use Rattle.choice_laws.proofs.First.{taken, clears-first, not_first, all_fail, is_first}
 
 -- a side that is not permitted clears nothing

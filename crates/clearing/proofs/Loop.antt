@@ -1,6 +1,6 @@
 -- The loop over the contacts: each turn joins one more of those that are left, and one that blocks decides, wherever it stands.
 use mathlib.Core.Path.{◌≡◌, refl, sym, ap, ◌∙◌}
-use mathlib.Core.Bool.{Bool, true, false, true≢false}
+use mathlib.Core.Bool.{true, false, true≢false}
 use mathlib.Core.List.{List, [], ◌∷◌, map}
 use Prim.Native.Nat.{ℕ, zero, suc, ◌+◌, ◌≤◌, ◌<◌, min}
 use native.Mathlib.Nat.{le_of_lt, lt_of_lt_of_le}
@@ -13,8 +13,6 @@ use Rattle.passages.specs.declared.Passage.{Passage}
 use Rattle.passages.specs.declared.Passage.TheVariants.{Blocked, At}
 use Rattle.clearing.specs.declared.Tally.{Tally}
 use Rattle.clearing.specs.declared.Tally.TheVariants.{Stopped, Free, Least}
-use Rattle.clearing.specs.declared.Clearance.{Clearance}
-use Rattle.clearing.specs.declared.Clearance.TheVariants.{No}
 use Rattle.clearing.specs.Clearing.{join, tally, cleared, clearing, is_blocked, is_stopped}
 
 -- one that blocks decides

@@ -1,5 +1,5 @@
 -- What the steps of clearing owe: one more contact, and what they come to.
-use mathlib.Core.Path.{◌≡◌, refl, sym, ap, ◌∙◌}
+use mathlib.Core.Path.{◌≡◌, sym, ap, ◌∙◌}
 use mathlib.Core.Bool.{Bool, true, false, cond}
 use Prim.Native.Nat.{ℕ}
 use lib.Ieee.{lt}
@@ -9,7 +9,7 @@ use Rattle.passages.specs.declared.Passage.TheVariants.{Blocked, At}
 use Rattle.clearing.specs.declared.Passing.{Passing}
 use Rattle.clearing.specs.declared.Tally.{Tally}
 use Rattle.clearing.specs.declared.Tally.TheVariants.{Stopped, Free, Least}
-use Rattle.clearing.specs.declared.Clearance.TheVariants.{No, Yes}
+use Rattle.clearing.specs.declared.Clearance.TheVariants.{Yes}
 use Rattle.clearing.specs.Clearing.{largest, least, join, cleared}
 use Rattle.manoeuvre.specs.declared.Limiting.TheVariants as Limiting
 

@@ -2,7 +2,7 @@
 use mathlib.Core.Path.{◌≡◌, refl, sym, ap, ◌∙◌, subst}
 use mathlib.Core.Bool.{true, false}
 use Prim.Native.Nat.{ℕ, zero, suc, ◌+◌, ◌*◌, ◌-◌, ◌^◌, ◌/◌, ◌%◌, ◌≤◌, ◌<◌}
-use native.Mathlib.Nat.{add_comm, le_trans, lt_of_lt_of_le, lt_of_le_of_lt, mul-le-mul}
+use native.Mathlib.Nat.{add_comm, le_trans, mul-le-mul}
 use native.Mathlib.Omega.{arith}
 use lib.IntN.{pos}
 use lib.Dec.{T, ltb→lt, lit≤}
@@ -18,7 +18,7 @@ use Rattle.laws.proofs.Compare.{lt-units}
 use Rattle.laws.proofs.Pattern.{pattern_below, normal_units, subnormal_units}
 use Rattle.laws.proofs.Units.{own_units, units_are}
 use Rattle.laws.proofs.Whole.{closest-zero}
-use Rattle.decimal.specs.Thousandths.{none, limit, thousandths_of}
+use Rattle.decimal.specs.Thousandths.{thousandths_of}
 
 -- in units of 2 ^ -1074
 in-units : (x : Float) → T (fits binary64 x) → T (finite x) → closest (num x * 1000) (den x) ≡ closest (units_of x * 1000) (2 ^ 1074)

@@ -1,9 +1,8 @@
 -- Whole numbers: a power of two by a shift, and a quotient rounded to the nearest whole number by twice its remainder.
 use mathlib.Core.Path.{◌≡◌, ap, ◌∙◌, subst}
 use Prim.Native.Nat.{ℕ, suc, ◌+◌, ◌*◌, ◌^◌, ◌/◌, ◌%◌, ◌≤◌, ◌<◌}
-use native.Mathlib.Nat.{le_trans, le_of_lt, lt_of_lt_of_le, div-add-mod', mod-lt, mod-eq_of_lt, one-mul}
+use native.Mathlib.Nat.{div-add-mod', mod-lt, mod-eq_of_lt, one-mul}
 use native.Mathlib.Omega.{arith}
-use lib.Dec.{lit≤}
 use lib.Pow.{pow-lt}
 use lib.Ieee.Nearest.{closest}
 use Rattle.laws.specs.Rounding.{NearestWhole}

@@ -1,5 +1,5 @@
 -- A refusal's number is one of document 01's, 1 to 16, and says which refusal it is.
-use Prim.Native.Nat.{ℕ, ◌≤◌}
+use Prim.Native.Nat.{◌≤◌}
 use native.Mathlib.Omega.{arith}
 use Rattle.elementary.specs.Refusal.{number_of}
 use Rattle.elementary.specs.declared.error.Refusal.{Refusal}

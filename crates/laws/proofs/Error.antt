@@ -8,7 +8,7 @@ use native.Mathlib.Omega.{arith}
 use lib.Dec.{T, lit<, lit≤}
 use lib.Pow.{pow_pos}
 use lib.Ieee.{Float, binary64, round, mul, add, div, unlike}
-use lib.Ieee.Exact.{HasValue, units_val, round_exact}
+use lib.Ieee.Exact.{units_val, round_exact}
 use lib.Ieee.Fits.{round_is}
 use lib.Ieee.Order.{drop, kept, round_mono}
 use lib.Ieee.Scale.{grid, overflow}
@@ -17,7 +17,7 @@ use Rattle.laws.specs.Units.{Units}
 use Rattle.laws.proofs.Bools.{le_of_test}
 use Rattle.laws.proofs.Compare.{le-units}
 use Rattle.laws.proofs.Rounding.{near_of_normal, close_at_all, near_cancel, close_cancel}
-use Rattle.laws.proofs.Units.{mul-units, add-units, div-units, SumOf, add_rounding}
+use Rattle.laws.proofs.Units.{mul-units, add-units, div-units, add_rounding}
 
 -- ---- a fraction a / c of at most 2 ^ 1023
 pub in-range : (a c : ℕ) → 0 < c → a ≤ c * 2 ^ 1023 → grid binary64 a c < overflow binary64

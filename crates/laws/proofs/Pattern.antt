@@ -1,6 +1,6 @@
 -- Floats by their bit patterns: the exponent's field, and the 52 digits below the leading one. Of a float with its sign clear, the field k + 1 with the digits t stands for (2 ^ 52 + t) * 2 ^ k units, and the field 0 for t units.
 use mathlib.Core.Path.{◌≡◌, refl, sym, ap, ◌∙◌, subst}
-use mathlib.Core.Bool.{Bool, true, false, not, cond, true≢false}
+use mathlib.Core.Bool.{true, false, not, cond, true≢false}
 use mathlib.Core.Logic.{inl, inr}
 use Prim.Native.Nat.{ℕ, suc, ◌+◌, ◌*◌, ◌-◌, ◌^◌, ◌/◌, ◌%◌, ◌≤◌, ◌<◌}
 use native.Mathlib.Nat.{pow-succ', mod-eq_of_lt, lt_of_lt_of_le, eq-or-lt_of_le, zero-add}
@@ -17,7 +17,7 @@ use lib.Ieee.Scale.{finite}
 use Rattle.laws.specs.Units.{Units, sign, units_of}
 use Rattle.laws.proofs.Bools.{holds}
 use Rattle.laws.proofs.Compare.{lt-units}
-use Rattle.laws.proofs.Units.{Form, form}
+use Rattle.laws.proofs.Units.{form}
 
 -- ---- what is no NaN
 pub no_nan_size : (b : ℕ) → b % 2 ^ 63 ≤ 2047 * 2 ^ 52 → T (not (nan_bits binary64 b))

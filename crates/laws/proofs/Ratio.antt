@@ -4,16 +4,16 @@ use mathlib.Core.Bool.{Bool, not}
 use Prim.Native.Nat.{ℕ, suc, ◌+◌, ◌*◌, ◌^◌, ◌≤◌, ◌<◌}
 use native.Mathlib.Nat.{lt_of_le_of_lt, mul-le-mul, mul-le-mul_right, mul-pos, mul_assoc, mul_comm, pow-succ'}
 use native.Mathlib.Omega.{arith}
-use lib.Dec.{T, lit<}
+use lib.Dec.{lit<}
 use lib.Pow.{pow_pos, pow-add}
 use lib.Ieee.{Float, binary64, add, mul, neg, round, unlike}
 use lib.Ieee.Fits.{neg-fits, round-fits}
 use lib.Ieee.Scale.{grid}
 use Rattle.laws.specs.Size.{Small, Times}
-use Rattle.laws.specs.Units.{Units, sign, units_of}
+use Rattle.laws.specs.Units.{sign, units_of}
 use Rattle.laws.proofs.Error.{in-range, round-value, round-at_most, under_float}
 use Rattle.laws.proofs.Size.{units_small}
-use Rattle.laws.proofs.Units.{Form, own_units, units_are, finite_of_units, mul-units, neg-units, SumOf, add_rounding}
+use Rattle.laws.proofs.Units.{Form, own_units, units_are, finite_of_units, mul-units, neg-units, add_rounding}
 
 -- 2 ^ k times y is a float
 scaled : (k : ℕ) (y : Float) (o : Form y) → 2 ^ k * units_of y ≡ o.q * 2 ^ (o.j + k)

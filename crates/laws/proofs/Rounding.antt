@@ -9,7 +9,7 @@ use lib.Pow.{pow_pos, pow-add}
 use lib.Ieee.{size}
 use lib.Ieee.Digits.{size_reaches}
 use lib.Ieee.Order.{drop, kept}
-use Rattle.laws.specs.Rounding.{NearestWhole, Near, Close}
+use Rattle.laws.specs.Rounding.{Near, Close}
 use Rattle.laws.proofs.Whole.{closest_is}
 
 -- q * w is within half of w of n

@@ -4,7 +4,7 @@ use mathlib.Core.Bool.{Bool, true, false, not, ◌||◌, ◌&&◌}
 use Prim.Native.Nat.{ℕ, suc, ◌+◌, ◌*◌, ◌-◌, ◌^◌, ◌≤◌, ◌<◌}
 use native.Mathlib.Nat.{le_trans, le_of_eq, lt_of_lt_of_le, mul-le-mul, mul-le-mul_right, le_of_mul-le-mul_right, mul-pos, mul-one, one-mul, zero-mul, pow-succ'}
 use native.Mathlib.Omega.{arith}
-use lib.IntN.{ℤ, pos}
+use lib.IntN.{pos}
 use lib.Dec.{T, ltb, eqb, eqb→eq, nltb→le, lt→ltb, lit<}
 use lib.Pow.{pow_pos, pow-add, pow_mono, pow-lt}
 use lib.Ieee.{Float, nan, inf, fin, up, down, binary64, fits, add, sub, mul, div, neg, lt, le, eq, round, unlike}
@@ -18,7 +18,7 @@ use Rattle.laws.proofs.Bools.{or_left, le_of_test, test_of_le}
 use Rattle.laws.proofs.Compare.{le-units, lt-units}
 use Rattle.laws.proofs.Error.{in-range, round-value, round-at_most, round-at_least}
 use Rattle.laws.proofs.Numbers.{sub-add}
-use Rattle.laws.proofs.Units.{own_units, units_are, finite_of_units, mul-units, div-units, neg-units, SumOf, add_rounding}
+use Rattle.laws.proofs.Units.{own_units, units_are, finite_of_units, mul-units, div-units, neg-units, add_rounding}
 
 pub units_small : {p q : ℕ} {x : Float} → Small p q x → Units x (sign x) (units_of x)
 units_small {x = x} h = own_units x h.held h.number

@@ -1,5 +1,4 @@
 -- How long the lines are at most, so that a program can show that what it prints fits the room: the lines on 57 contacts and the answer do.
-use mathlib.Core.List.{List, [], ◌∷◌, ◌++◌}
 use Prim.Native.Nat.{ℕ, ◌+◌, ◌*◌, ◌≤◌}
 use native.Mathlib.Omega.{arith}
 use lib.Dec.{lit≤}
@@ -8,10 +7,9 @@ use lib.Ieee.{Float}
 use Rattle.decimal.specs.Thousandths.{thousandths_of}
 use Rattle.text.specs.Text.{room, bytes}
 use Rattle.text.specs.Decimal.{decimal_of, digits_up_to}
-use Rattle.text.specs.Line.{spaced, line}
 use Rattle.text.proofs.Digits.{decimal_short, decimals_short}
 use Rattle.fields.specs.Fields.{quantity_field, approach_field, distance_of, seconds_field, risk_field}
-use Rattle.ruling_fields.specs.Fields.{crossing_field, encounter_field, responsibility_field}
+use Rattle.ruling_fields.specs.Fields.{encounter_field, responsibility_field}
 use Rattle.elementary.specs.declared.error.Refusal.{Refusal}
 use Rattle.elementary.specs.Refusal.{number_of}
 use Rattle.motion.specs.declared.units.Distance.{Distance}
@@ -20,7 +18,6 @@ use Rattle.relative_motion.specs.declared.approach.Approach.TheVariants as Appro
 use Rattle.risk.specs.declared.CollisionRisk.{CollisionRisk}
 use Rattle.risk.specs.declared.CollisionRisk.TheVariants as Risk
 use Rattle.colregs.specs.declared.answer.Ruling.{Ruling}
-use Rattle.colregs.specs.declared.answer.Side.{Side}
 use Rattle.colregs.specs.declared.answer.Side.TheVariants as Tack
 use Rattle.colregs.specs.declared.answer.Encounter.{Encounter}
 use Rattle.colregs.specs.declared.answer.Encounter.TheVariants as Encounter

@@ -1,5 +1,5 @@
 -- The constant 180 / π as the compiler has it is the rounded quotient of its definition, and degrees below 360 are at most 16 radians.
-use Rattle.std.proofs.Common.{◌≡◌, T, refl, ap, subst, lit<, lit≤}
+use Rattle.std.proofs.Common.{◌≡◌, refl, ap, subst, lit<, lit≤}
 use lib.Ieee.{Float, binary64, fits, div, mul, of_bits, round}
 use Rattle.laws.specs.Size.{Small, AtLeast}
 use Rattle.laws.specs.Units.{units_of}

@@ -1,11 +1,11 @@
 -- What the code of the picture owes: the targets of a count beyond the room, one target more, and the loops.
 use mathlib.Core.Path.{◌≡◌, refl, sym, ap, ◌∙◌, subst}
-use mathlib.Core.Bool.{Bool, true, false, not, cond}
+use mathlib.Core.Bool.{Bool, true, false, cond}
 use mathlib.Core.List.{List, [], ◌∷◌, ◌++◌, append_assoc, append-nil}
 use Prim.Native.Nat.{ℕ, suc, ◌+◌, ◌≤◌, ◌<◌, min}
 use native.Mathlib.Numerals.{add-one}
 use native.Mathlib.Omega.{arith}
-use lib.Dec.{T, ltb, lt→ltb, ltb→lt}
+use lib.Dec.{ltb, lt→ltb, ltb→lt}
 use lib.Ieee.Bits.{is_true}
 use lib.ListN.{length, get_or, set, take, length-append, length-take}
 use lib.Seq.{slice, slice-cons, slice_empty, take-suc-set}
@@ -16,7 +16,7 @@ use Rattle.room.proofs.Counts.{take-held}
 use Rattle.risk.specs.declared.CollisionRisk.{CollisionRisk}
 use Rattle.targets.specs.declared.TargetAssessment.{TargetAssessment}
 use Rattle.targets.specs.declared.PerhapsTarget.{PerhapsTarget}
-use Rattle.targets.specs.declared.PerhapsTarget.TheVariants.{Nothing, Of}
+use Rattle.targets.specs.declared.PerhapsTarget.TheVariants.{Nothing}
 use Rattle.picture.specs.Picture.{pushed, is_at_least, pushed_if, at_least}
 
 -- ---- the targets: a count beyond the room is cut at it

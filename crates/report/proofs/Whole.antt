@@ -1,11 +1,11 @@
 -- Nothing of a report is cut: the lines on the contacts that there is room for, and the answer, fit in a text.
-use mathlib.Core.Path.{◌≡◌, refl, sym, ap, ◌∙◌}
+use mathlib.Core.Path.{◌≡◌, ap, ◌∙◌}
 use mathlib.Core.List.{List, [], ◌∷◌, ◌++◌, flat_map}
 use Prim.Native.Nat.{ℕ, ◌+◌, ◌*◌, ◌≤◌}
 use native.Mathlib.Omega.{arith}
 use lib.Dec.{lit≤}
 use lib.ListN.{length, length-append}
-use Rattle.text.specs.Text.{room, appended}
+use Rattle.text.specs.Text.{appended}
 use Rattle.text.proofs.Appending.{appended_twice, whole}
 use Rattle.elementary.specs.declared.error.Refusal.{Refusal}
 use Rattle.relative_motion.specs.declared.approach.CpaAnswer.{CpaAnswer}

@@ -1,22 +1,18 @@
 -- What it means that a sheet is accepted: every check is good, and with them those of the functions that are asked.
-use mathlib.Core.Path.{◌≡◌, refl, sym, ap, ◌∙◌, subst}
+use mathlib.Core.Path.{◌≡◌, sym, ap}
 use mathlib.Core.Bool.{Bool, true, false, true≢false}
-use mathlib.Core.List.{List, [], ◌∷◌, ◌++◌, map}
-use Prim.Native.Nat.{ℕ, ◌≤◌, min}
-use native.Mathlib.Omega.{arith}
-use lib.Dec.{T, leb, le→leb}
+use mathlib.Core.List.{List, [], ◌++◌, map}
+use Prim.Native.Nat.{ℕ}
+use lib.Dec.{le→leb}
 use lib.ListN.{length}
-use Rattle.elementary.specs.declared.error.Refusal.{Refusal}
-use Rattle.motion.specs.declared.units.Distance.{Distance}
 use Rattle.arguments.specs.declared.Verdict.{Verdict}
 use Rattle.arguments.specs.declared.Verdict.TheVariants as Verdict
-use Rattle.arguments.specs.Check.{Check, verdict, vessel_checks, contact_checks, distance_checks, encounter_checks}
-use Rattle.situation.specs.declared.party.Party.{Party}
+use Rattle.arguments.specs.Check.{Check, verdict, vessel_checks, distance_checks}
 use Rattle.situation.specs.Arguments.{perhaps_checks, party_checks}
-use Rattle.constraints.specs.Constraints.{alteration_checks, rate_checks, constraint_checks}
+use Rattle.constraints.specs.Constraints.{alteration_checks, constraint_checks}
 use Rattle.room.specs.Room.{max_contacts}
 use Rattle.traffic.specs.declared.Entry.{Entry}
-use Rattle.traffic.specs.Traffic.{count_checks, entry_checks, contacts_checks}
+use Rattle.traffic.specs.Traffic.{contacts_checks}
 use Rattle.motion_laws.specs.Sound.{AllGood}
 use Rattle.motion_laws.proofs.Sizes.{all_good}
 use Rattle.choice_laws.proofs.Accepting.{good_front, good_back, good_both}
@@ -30,7 +26,7 @@ use Rattle.sheet_record.specs.Record.{header_of, rows_of, readable}
 use Rattle.sheet_record.proofs.Filling.{few-rows}
 use Rattle.sheet_values.specs.Values.{scaled, own_of, party_of, wind_from, entry_of}
 use Rattle.sheet.specs.Sheet.{code_checks, limit_checks, value_checks, by_layout, sheet_verdict}
-use Rattle.report_laws.specs.Plain.{policy, constraints, desired}
+use Rattle.report_laws.specs.Plain.{constraints, desired}
 
 abbrev accepts : Verdict → Bool
 accepts Verdict.Accepted = true

@@ -1,6 +1,6 @@
 -- Every report has at least one byte, so that a caller of the C interface can tell 0, no room, from an answer; and at most 4,232, which is the room that a caller needs: 32 lines of at most 129 bytes and one of at most 104.
-use mathlib.Core.List.{List, ◌++◌}
-use Prim.Native.Nat.{ℕ, ◌+◌, ◌*◌, ◌≤◌, ◌<◌}
+use mathlib.Core.List.{List}
+use Prim.Native.Nat.{ℕ, ◌≤◌, ◌<◌}
 use native.Mathlib.Omega.{arith}
 use lib.ListN.{length, length-append}
 use Rattle.elementary.specs.declared.error.Refusal.{Refusal}

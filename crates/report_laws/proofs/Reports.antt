@@ -1,5 +1,5 @@
 -- On an accepted sheet the report has a plain line for each contact, and the answer of the ruled search, which meets demand 3.
-use mathlib.Core.Path.{◌≡◌, refl, sym, ap, ◌∙◌, subst}
+use mathlib.Core.Path.{◌≡◌, refl, ap, ◌∙◌, subst}
 use mathlib.Core.Bool.{Bool, true, false, ◌||◌, cond}
 use mathlib.Core.Logic.{◌⊎◌, inl, inr}
 use mathlib.Core.List.Memᴰ
@@ -10,27 +10,23 @@ use lib.ListN.{length}
 use lib.IntN.{pos}
 use lib.Ieee.{binary64, fits, of_int}
 use lib.Ieee.Fits.{div-fits}
-use Rattle.laws.specs.Ops.{◌⊘◌}
 use Rattle.elementary.specs.declared.error.Refusal.{Refusal}
 use Rattle.elementary.specs.declared.error.Refusal.TheVariants as Why
 use Rattle.motion.specs.declared.vessel.Vessel.{Vessel}
 use Rattle.arguments.specs.declared.Verdict.{Verdict}
 use Rattle.arguments.specs.declared.Verdict.TheVariants as Verdict
 use Rattle.arguments.specs.Check.{verdict, vessel_checks, contact_checks, encounter_checks}
-use Rattle.relative_motion.specs.declared.approach.CpaAnswer.{CpaAnswer}
 use Rattle.relative_motion.specs.declared.approach.CpaAnswer.TheVariants as Cpa
 use Rattle.relative_motion.specs.Approach.{approach, cpa_by, cpa_answer}
 use Rattle.policy.specs.declared.PolicyAnswer.TheVariants as Policy
 use Rattle.policy.specs.Policy.{policy_checks, policy_by, policy_answer}
 use Rattle.situation.specs.declared.party.Visibility.{Visibility}
 use Rattle.situation.specs.Situation.{standard}
-use Rattle.situation.specs.Arguments.{party_checks}
 use Rattle.facts.specs.Facts.{facts_of}
 use Rattle.colregs.specs.declared.answer.RulingAnswer.TheVariants as RulingAnswer
 use Rattle.colregs.specs.Colregs.{ruling_of, ruling_answer}
 use Rattle.ruling_laws.proofs.Settled.{settled}
 use Rattle.constraints.specs.declared.ConstraintsAnswer.TheVariants as Constraints
-use Rattle.constraints.specs.declared.PermittedSides.TheVariants.{Either}
 use Rattle.constraints.specs.declared.ManoeuvreConstraints.{ManoeuvreConstraints}
 use Rattle.constraints.specs.Constraints.{alteration_checks, constraints_by, constraints_answer}
 use Rattle.choice.specs.declared.Sides.{Sides}
@@ -39,7 +35,7 @@ use Rattle.choice.specs.declared.Choice.TheVariants as Choice
 use Rattle.choice.specs.Choice.{choice_for}
 use Rattle.traffic.specs.declared.Entry.{Entry}
 use Rattle.traffic.specs.Traffic.{target_of}
-use Rattle.motion_laws.specs.Sound.{HeldVessel, HeldContact, AllGood}
+use Rattle.motion_laws.specs.Sound.{HeldVessel}
 use Rattle.choice_laws.proofs.Accepting.{good_both}
 use Rattle.choice_laws.proofs.Prepared.{accepted}
 use Rattle.rulings.specs.declared.RuledAnswer.{RuledAnswer}
@@ -54,11 +50,10 @@ use Rattle.sheet_record.specs.declared.Header.{Header}
 use Rattle.sheet_record.specs.declared.Row.{Row}
 use Rattle.sheet_record.specs.Record.{header_of, rows_of}
 use Rattle.sheet_values.specs.Values.{scaled, visibility_of, vessel_of, party_of, own_of, wind_from, entry_of}
-use Rattle.sheet.specs.Sheet.{limit_checks, sheet_verdict}
-use Rattle.lines.specs.Lines.{contact_line}
+use Rattle.sheet.specs.Sheet.{sheet_verdict}
 use Rattle.contact_lines.specs.Contacts.{line_by, line_on, contact_lines}
 use Rattle.report.specs.Report.{answer_on, answer_line, policy_on, constraints_on, lines_by, lines_on, by_verdict, report}
-use Rattle.report_laws.specs.Plain.{policy, constraints, desired, situation_on, plain_line, plain_answer, Reported, AsReported}
+use Rattle.report_laws.specs.Plain.{policy, constraints, desired, situation_on, plain_line, plain_answer, AsReported}
 use Rattle.report_laws.proofs.Accepted.{alterations_good, limits_good, ruled_good}
 
 -- ---- a sheet's numbers are f64s

@@ -22,7 +22,7 @@ use Rattle.math.proofs.Sign.{abs-fits, abs-units, at_most_size}
 use Rattle.root.specs.Root.{NearestRoot}
 use Rattle.root.specs.Sqrt.{sqrt}
 use Rattle.root.specs.Hypot.{largest, small, in_domain, hypot_ordered, hypot, larger, Hypotenuse, IsHypot}
-use Rattle.root.proofs.NearestSqrt.{parts_ge, RootDigits, root_digits}
+use Rattle.root.proofs.NearestSqrt.{parts_ge, root_digits}
 
 -- ---- a and b differ by e parts in 2 ^ 56 at most
 pub record Rel (e a b : ℕ) : Type 0 where

@@ -1,16 +1,16 @@
 -- Sizes: a hypotenuse is at most twice a bound of its sides, and each side at most twice the hypotenuse.
-use mathlib.Core.Path.{◌≡◌, refl, sym, ap, ◌∙◌, subst}
-use mathlib.Core.Bool.{Bool, true, false, not, ◌&&◌, cond}
+use mathlib.Core.Path.{◌≡◌, refl, sym, ◌∙◌, subst}
+use mathlib.Core.Bool.{Bool, true, false, not, cond}
 use mathlib.Core.Logic.{◌⊎◌, inl, inr}
-use Prim.Native.Nat.{ℕ, zero, suc, ◌+◌, ◌*◌, ◌^◌, ◌≤◌, ◌<◌}
+use Prim.Native.Nat.{ℕ, suc, ◌+◌, ◌*◌, ◌^◌, ◌≤◌, ◌<◌}
 use native.Mathlib.Nat.{le_trans, le_of_eq, le_of_lt, le_refl, mul-le-mul, mul-le-mul_right, le_of_mul-le-mul_right, mul_assoc, mul_comm, eq-zero-or-pos, pow-succ'}
 use native.Mathlib.Omega.{arith}
 use lib.Dec.{T, ltb, ltb→lt, nltb→le}
 use lib.Pow.{pow_pos, pow-add, pow_mono}
-use lib.Ieee.{Float, binary64, fits, le, of_bits}
+use lib.Ieee.{Float, of_bits}
 use lib.Ieee.Fits.{and_i}
 use Rattle.laws.specs.Size.{Small, Times}
-use Rattle.laws.specs.Units.{Units, sign, units_of}
+use Rattle.laws.specs.Units.{sign, units_of}
 use Rattle.laws.proofs.Bools.{test_of_le}
 use Rattle.laws.proofs.Compare.{le-units}
 use Rattle.laws.proofs.Numbers.{le_by}

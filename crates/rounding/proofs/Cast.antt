@@ -1,8 +1,7 @@
 -- The cast behind its tests: in range, the whole part of a float is the integer that the machine's cast gives.
 use Rattle.std.proofs.Common.{◌≡◌, ℕ, ◌-◌, ◌*◌, ◌/◌, ◌^◌, ◌<◌, ◌≤◌, min, Bool, true, false, cond, ◌||◌, T, eqb, ltb, ℤ, pos, neg_ℤ, sym, refl, ap, ◌∙◌, subst, inl, inr, arith, pow_pos, w32, w64, SFits, to_z, of_z}
-use mathlib.Core.Bool.{beq}
 use native.Mathlib.Nat.{div-le_of_le-mul}
-use lib.Ieee.{Float, nan, inf, fin, binary64, up, down, lt, le, eq, below, level, of_bits, is_nan, to_signed}
+use lib.Ieee.{Float, nan, inf, fin, up, down, lt, le, eq, below, level, of_bits, is_nan, to_signed}
 use lib.Ieee.Casts.{to_signed_in}
 use lib.Ieee.Fits.{and_l, down_pos}
 use lib.Signed.{mag}

@@ -1,10 +1,9 @@
 -- What it means that the checks of the ruled search accept its arguments: own craft, every contact and the limits of the trials are fit, and every contact has a ruling.
-use mathlib.Core.Path.{◌≡◌, refl, sym, ap, ◌∙◌, subst}
+use mathlib.Core.Path.{◌≡◌, sym, ap, subst}
 use mathlib.Core.Logic.{⊎_elim}
 use mathlib.Core.List.Memᴰ
 use mathlib.Core.List.{List, [], ◌∷◌, ◌++◌, map, Memᴰ}
 use Prim.Native.Nat.{ℕ}
-use lib.Dec.{T}
 use lib.Ieee.{le, of_bits}
 use Rattle.elementary.specs.Range.{in_range}
 use Rattle.motion.specs.declared.units.Distance.{Distance}
@@ -16,22 +15,20 @@ use Rattle.situation.specs.declared.party.Visibility.{Visibility}
 use Rattle.situation.specs.Situation.{standard}
 use Rattle.situation.specs.Arguments.{perhaps_checks, party_checks, is_width, config_checks, situation_checks}
 use Rattle.facts.specs.Facts.{facts_of}
-use Rattle.colregs.specs.declared.answer.Ruling.{Ruling}
 use Rattle.colregs.specs.declared.answer.RulingAnswer.TheVariants as RulingAnswer
 use Rattle.colregs.specs.Colregs.{ruling_of, ruling_by, ruling_answer}
 use Rattle.constraints.specs.declared.ManoeuvreConstraints.{ManoeuvreConstraints}
 use Rattle.constraints.specs.Constraints.{constraint_checks}
 use Rattle.trials.specs.Trials.{Limits}
-use Rattle.passages.specs.declared.Target.{Target}
 use Rattle.traffic.specs.declared.Entry.{Entry}
 use Rattle.traffic.specs.Traffic.{target_of, count_checks, entry_checks, contacts_checks}
 use Rattle.motion_laws.specs.Sound.{AllGood}
 use Rattle.motion_laws.proofs.Sizes.{all_good}
-use Rattle.choice_laws.specs.Fit.{FitVessel, FitContact, FitTarget, FitTargets}
+use Rattle.choice_laws.specs.Fit.{FitVessel, FitTarget, FitTargets}
 use Rattle.choice_laws.proofs.Accepting.{good_front, good_back, good_both, vessel_fit, limits_fit}
 use Rattle.choice_laws.proofs.Prepared.{accepted}
 use Rattle.rulings.specs.Ruled.{situation_of, ruled_checks}
-use Rattle.ruled_laws.specs.Held.{HeldEntry, HeldArguments}
+use Rattle.ruled_laws.specs.Held.{HeldArguments}
 
 -- ---- the standard widths, one vessel, one contact
 widths : AllGood (config_checks standard)

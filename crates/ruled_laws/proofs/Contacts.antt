@@ -1,17 +1,15 @@
 -- What one contact does on a course, and all of them, in the words of demand 3: a course clears exactly if no contact closes under desired minus 1e-9, and what is said of its passing distance and limiting contact.
 use mathlib.Core.Path.{◌≡◌, refl, sym, ap, ◌∙◌, subst}
 use mathlib.Core.Bool.{Bool, true, false, cond, true≢false}
-use mathlib.Core.Logic.{◌⊎◌, inl, inr, ⊎_elim}
+use mathlib.Core.Logic.{◌⊎◌, ⊎_elim}
 use mathlib.Core.List.Memᴰ
-use mathlib.Core.List.{List, [], ◌∷◌, ◌++◌, map, map-map, nil≢cons, Memᴰ}
+use mathlib.Core.List.{List, [], ◌∷◌, map, map-map, nil≢cons, Memᴰ}
 use Prim.Native.Nat.{ℕ}
 use lib.ListN.{length, length-map}
 use lib.Dec.{T}
-use lib.Ieee.{Float, lt, le}
+use lib.Ieee.{lt, le}
 use lib.Ieee.Bits.{is_true}
-use Rattle.laws.specs.Size.{Small}
-use Rattle.laws.proofs.Bools.{holds}
-use Rattle.laws.proofs.Members.{Cut, cut_map}
+use Rattle.laws.proofs.Members.{cut_map}
 use Rattle.motion.specs.declared.units.Distance.{Distance}
 use Rattle.motion.specs.declared.vessel.Vessel.{Vessel}
 use Rattle.motion.specs.Vessel.{offset, relative_velocity}
@@ -26,7 +24,6 @@ use Rattle.arguments.specs.Check.{verdict, encounter_checks}
 use Rattle.arguments.specs.declared.Verdict.{Verdict}
 use Rattle.arguments.specs.declared.Verdict.TheVariants as Verdict
 use Rattle.manoeuvre.specs.declared.Limiting.TheVariants as Limiting
-use Rattle.passages.specs.declared.Target.{Target}
 use Rattle.passages.specs.declared.Passage.{Passage}
 use Rattle.passages.specs.declared.Passage.TheVariants.{Blocked, At}
 use Rattle.clearing.specs.declared.Passing.{Passing}

@@ -1,15 +1,14 @@
 -- The definition of the ruled search meets demand 3.
 use mathlib.Core.Path.{◌≡◌, refl, sym, ap, ◌∙◌, subst}
 use mathlib.Core.Bool.{Bool, true, false, cond, ◌||◌, true≢false}
-use mathlib.Core.List.{List, [], ◌∷◌, map, Memᴰ}
+use mathlib.Core.List.{List, map, Memᴰ}
 use Prim.Native.Nat.{ℕ}
 use native.Mathlib.Omega.{arith}
 use lib.Dec.{T}
-use lib.Ieee.{Float, eq, lt, le}
+use lib.Ieee.{Float}
 use lib.Ieee.Bits.{is_true}
 use Rattle.laws.specs.Ascending.{Ascending}
-use Rattle.laws.proofs.Bools.{refuted, or_left, or_right}
-use Rattle.elementary.specs.declared.error.Refusal.{Refusal}
+use Rattle.laws.proofs.Bools.{or_left, or_right}
 use Rattle.elementary.specs.declared.error.Refusal.TheVariants as Why
 use Rattle.motion.specs.declared.units.Distance.{Distance}
 use Rattle.motion.specs.declared.vessel.Vessel.{Vessel}
@@ -34,7 +33,7 @@ use Rattle.trials.proofs.Listed.{ascending}
 use Rattle.clearing.specs.declared.Clearance.{Clearance}
 use Rattle.clearing.specs.declared.Clearance.TheVariants.{No, Yes}
 use Rattle.clearing.specs.declared.Passing.{Passing}
-use Rattle.clearing.specs.Clearing.{altered, floor_of, passage, clearing, clears}
+use Rattle.clearing.specs.Clearing.{altered, clears}
 use Rattle.choice.specs.declared.Sides.{Sides}
 use Rattle.choice.specs.declared.Chosen.{Chosen}
 use Rattle.choice.specs.declared.Choice.{Choice}

@@ -15,7 +15,6 @@ use Rattle.colregs.specs.declared.answer.Encounter.{Encounter}
 use Rattle.colregs.specs.declared.answer.Decision.{Decision}
 use Rattle.colregs.specs.declared.answer.PermittedManoeuvre.{PermittedManoeuvre}
 use Rattle.colregs.specs.declared.answer.Ruling.{Ruling}
-use Rattle.colregs.specs.declared.answer.RulingAnswer.{RulingAnswer}
 use Rattle.colregs.specs.declared.answer.RulingAnswer.TheVariants.{Of, Refused}
 use Rattle.colregs.specs.Colregs.{encounter_of, decided, clauses, permitted, ruling_for, ruling_of, ruling_by, ruling_answer}
 

@@ -24,7 +24,6 @@ use Rattle.colregs.specs.declared.answer.Responsibility.{Responsibility}
 use Rattle.colregs.specs.declared.answer.Responsibility.TheVariants.{GiveWay, StandOn, Both, Undetermined}
 use Rattle.colregs.specs.declared.answer.Rule.{Rule}
 use Rattle.colregs.specs.declared.answer.Rule.TheVariants.{Rule12, Rule13, Rule14, Rule15, Rule17, Rule18, Rule19}
-use Rattle.colregs.specs.declared.answer.Decision.{Decision}
 use Rattle.colregs.specs.Colregs.{Says, silent, says, clause, own_overtakes, target_comes_up, target_overtakes, is_head_on, side_of, encounter_of, keeps_clear, rule13, rule18, rule12, rule19, sailing_on, by_windward, by_tacks, decided, by_says, by_geometry, by_rank, clauses_in_sight, clauses, permitted, forward_of_beam, to_starboard, is_overtaking, starboard_by, port_by, starboard_by19, port_by19, port_by17, ruling_for, ruling_of}
 use Rattle.ruling_laws.specs.Log.{same_side, is_kind, OneKind, speaks, some_speaks, Row, row, row_of, In, here, there, in_sight, restricted}
 

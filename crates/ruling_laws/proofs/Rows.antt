@@ -2,7 +2,7 @@
 use mathlib.Core.Bool.{Bool, true, false}
 use Prim.Native.Nat.{ℕ, ◌+◌, ◌*◌}
 use lib.IntN.{pos}
-use lib.Ieee.{Float, binary64, of_bits, of_int}
+use lib.Ieee.{Float, binary64, of_int}
 use Rattle.laws.specs.Rows.{Row, row}
 use Rattle.elementary.specs.Refusal.{number_of}
 use Rattle.motion.specs.declared.units.Direction.{Direction}
@@ -15,14 +15,12 @@ use Rattle.situation.specs.declared.party.Visibility.TheVariants as Visibility
 use Rattle.situation.specs.declared.party.Situation.{Situation}
 use Rattle.situation.specs.declared.config.ColregsConfig.{ColregsConfig}
 use Rattle.situation.specs.Situation.{party, with_heading, situation, with_wind_from, standard}
-use Rattle.colregs.specs.declared.answer.Side.{Side}
 use Rattle.colregs.specs.declared.answer.Side.TheVariants.{Port, Starboard}
 use Rattle.colregs.specs.declared.answer.Encounter.{Encounter}
 use Rattle.colregs.specs.declared.answer.Encounter.TheVariants.{Overtaking, BeingOvertaken, HeadOn, Crossing}
 use Rattle.colregs.specs.declared.answer.Responsibility.{Responsibility}
 use Rattle.colregs.specs.declared.answer.Responsibility.TheVariants.{GiveWay, StandOn, Both, Undetermined}
 use Rattle.colregs.specs.declared.answer.Rule.{Rule}
-use Rattle.colregs.specs.declared.answer.Ruling.{Ruling}
 use Rattle.colregs.specs.declared.answer.RulingAnswer.{RulingAnswer}
 use Rattle.colregs.specs.declared.answer.RulingAnswer.TheVariants.{Of, Refused}
 use Rattle.colregs.specs.Ruling.{rule_number}

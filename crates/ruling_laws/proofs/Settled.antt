@@ -17,7 +17,6 @@ use Rattle.situation.specs.declared.party.Visibility.{Visibility}
 use Rattle.situation.specs.declared.party.Visibility.TheVariants.{InSight, Restricted}
 use Rattle.situation.specs.declared.config.ColregsConfig.{ColregsConfig}
 use Rattle.situation.specs.Arguments.{quarter_turn}
-use Rattle.facts.specs.declared.Facts.{Facts}
 use Rattle.facts.specs.declared.Windward.{Windward}
 use Rattle.facts.specs.declared.Windward.TheVariants as Windward
 use Rattle.facts.specs.Facts.{windward_of, facts_of}
@@ -27,7 +26,7 @@ use Rattle.colregs.specs.declared.answer.Rule.{Rule}
 use Rattle.colregs.specs.declared.answer.Rule.TheVariants.{Rule13, Rule18, Rule19}
 use Rattle.colregs.specs.declared.answer.Responsibility.TheVariants.{GiveWay, StandOn}
 use Rattle.colregs.specs.declared.answer.Decision.{Decision}
-use Rattle.colregs.specs.Colregs.{Says, silent, says, encounter_of, keeps_clear, rule12, rule13, rule18, rule19, by_windward, by_tacks, by_says, decided, by_geometry, by_rank, clauses_in_sight, clauses, ruling_for, ruling_of}
+use Rattle.colregs.specs.Colregs.{Says, silent, says, encounter_of, keeps_clear, rule13, rule18, rule19, by_windward, by_tacks, by_says, decided, by_rank, ruling_for, ruling_of}
 use Rattle.ruling_laws.specs.Settled.{is_settled, on_tack, is_known, Settled}
 
 -- ---- Rule 12

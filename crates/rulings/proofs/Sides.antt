@@ -1,8 +1,8 @@
 -- What the code of the shared sides owes: the sides of one ruling, and the loop over the contacts.
-use mathlib.Core.Path.{◌≡◌, refl, sym, ap, ◌∙◌}
+use mathlib.Core.Path.{◌≡◌, sym, ap, ◌∙◌}
 use mathlib.Core.Bool.{false}
 use mathlib.Core.List.{List}
-use Prim.Native.Nat.{ℕ, ◌≤◌, ◌<◌, min}
+use Prim.Native.Nat.{ℕ, min}
 use lib.ListN.{length, take}
 use Rattle.laws.specs.Fold.{fold}
 use Rattle.room.proofs.Counts.{take-held}

@@ -1,6 +1,6 @@
 -- The slopes of the two sums, up to 1: the sine rises by at least half of the angle's difference, and by at least the difference times 1 - n² / 2; the cosine falls, and by at least 5 / 12 of the difference of the squares.
 use mathlib.Core.Path.{◌≡◌, ap}
-use mathlib.Core.List.{List, [], ◌∷◌}
+use mathlib.Core.List.{[], ◌∷◌}
 use Prim.Native.Nat.{ℕ, ◌+◌, ◌*◌, ◌-◌, ◌≤◌}
 use native.Mathlib.Nat.{mul-le-mul_left, le_trans, mul-le-mul}
 use native.Mathlib.Omega.{arith}

@@ -1,7 +1,6 @@
 -- The sine and the cosine of an angle of R units against the exact sums at n / d, both at most 4 / 5.
 --
 -- The square of the angle is off by 8 / 5 of the angle's error and one cut, the series by at most e (proofs/Horner), the sine by the angle's error, 4 / 5 of e and one cut, the cosine by half of the square's error, a third of e and one cut.
-use mathlib.Core.List.{List, []}
 use Prim.Native.Nat.{ℕ, ◌+◌, ◌*◌, ◌/◌, ◌≤◌, ◌<◌}
 use native.Mathlib.Nat.{le_trans, mul-one, one-mul, mul-le-mul, div-mul-le_self, le_of_mul-le-mul_right, div-le_of_le-mul}
 use native.Mathlib.Omega.{arith}

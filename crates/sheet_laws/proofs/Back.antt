@@ -1,26 +1,25 @@
 -- Reading what was encoded gives the record back.
-use mathlib.Core.Path.{◌≡◌, refl, sym, ap, ◌∙◌, subst}
-use mathlib.Core.Bool.{Bool, true, false, ◌&&◌, cond}
+use mathlib.Core.Path.{◌≡◌, refl, sym, ap, ◌∙◌}
+use mathlib.Core.Bool.{Bool, true, false, cond}
 use mathlib.Core.List.{List, [], ◌∷◌, ◌++◌, flat_map}
-use Prim.Native.Nat.{ℕ, zero, suc, ◌+◌, ◌-◌, ◌*◌, ◌/◌, ◌%◌, ◌≤◌, ◌<◌}
+use Prim.Native.Nat.{ℕ, ◌+◌, ◌-◌, ◌*◌, ◌/◌, ◌%◌, ◌≤◌, ◌<◌}
 use native.Mathlib.Omega.{arith}
-use lib.Dec.{eqb, leb, lit≤}
-use lib.ListN.{length, get_or, take, drop, length-append}
+use lib.Dec.{eqb, lit≤}
+use lib.ListN.{length, get_or, drop, length-append}
 use lib.Seq.{drop-drop}
 use borrow.Author.Tests.{eq-eqb, le-leb}
 use Rattle.elementary.specs.declared.error.Refusal.TheVariants as Why
 use Rattle.room.specs.Room.{max_contacts}
-use Rattle.sheet_words.specs.Word.{words, word_of, kind, value, next_kind, in_order, has_wind, header_length, ordered, layout}
+use Rattle.sheet_words.specs.Word.{words, word_of, kind, value, in_order, has_wind, header_length, ordered, layout}
 use Rattle.sheet_record.specs.declared.Wind.{Wind}
 use Rattle.sheet_record.specs.declared.Wind.TheVariants as Wind
 use Rattle.sheet_record.specs.declared.Header.{Header}
 use Rattle.sheet_record.specs.declared.Row.{Row}
-use Rattle.sheet_record.specs.declared.Readable.TheVariants.{Yes, Refused}
 use Rattle.sheet_record.specs.Record.{header_of, contact_count, rows_of, readable}
-use Rattle.encoding.specs.Encode.{word, word_bytes, wind_words, header_words, row_words, rows_words, bytes_of, encode}
+use Rattle.encoding.specs.Encode.{word, wind_words, header_words, row_words, rows_words, bytes_of, encode}
 use Rattle.encoding.proofs.Rows.{bytes-length, rows-length, header_length_lem, wind_length}
-use Rattle.sheet_laws.specs.RoundTrip.{Value, WindValue, HeaderValues, RowValues, AllRowValues, ReadsBack}
-use Rattle.sheet_laws.proofs.Groups.{row_of, groups, all_rows}
+use Rattle.sheet_laws.specs.RoundTrip.{Value, WindValue, HeaderValues, AllRowValues, ReadsBack}
+use Rattle.sheet_laws.proofs.Groups.{groups, all_rows}
 
 -- ---- a word
 kind_of : (k v : ℕ) → kind (word k v) ≡ k

@@ -2,7 +2,7 @@
 use mathlib.Core.Path.{◌≡◌, refl, sym, ap, ◌∙◌, subst}
 use mathlib.Core.Bool.{Bool, true, false, not, ◌&&◌, cond}
 use mathlib.Core.List.{List, [], ◌∷◌, ◌++◌, flat_map}
-use Prim.Native.Nat.{ℕ, zero, suc, ◌+◌, ◌-◌, ◌*◌, ◌/◌, ◌%◌, ◌≤◌, ◌<◌}
+use Prim.Native.Nat.{ℕ, ◌+◌, ◌-◌, ◌/◌, ◌%◌, ◌≤◌, ◌<◌}
 use native.Mathlib.Omega.{arith}
 use lib.Dec.{T, eqb, leb, eqb→eq, leb→le, nleb→lt}
 use lib.ListN.{length, get_or, take, drop, length-take, take-append-drop, get_or-eq_default}
@@ -12,15 +12,13 @@ use Rattle.room.specs.Room.{max_contacts}
 use Rattle.sheet_words.specs.Word.{words, word_of, kind, value, next_kind, in_order, has_wind, header_length, ordered, max_bytes, layout}
 use Rattle.sheet_words.proofs.Words.{short}
 use Rattle.sheet_record.specs.declared.Wind.TheVariants as Wind
-use Rattle.sheet_record.specs.declared.Header.{Header}
-use Rattle.sheet_record.specs.declared.Row.{Row}
 use Rattle.elementary.specs.declared.error.Refusal.TheVariants as Why
 use Rattle.sheet_record.specs.declared.Readable.{Readable}
 use Rattle.sheet_record.specs.declared.Readable.TheVariants.{Yes, Refused}
 use Rattle.sheet_record.specs.Record.{value_at, wind_of, header_of, contact_count, rows_of, readable}
 use Rattle.encoding.specs.Encode.{word, word_bytes, wind_words, header_words, row_words, rows_words, bytes_of, encode}
 use Rattle.sheet_laws.specs.RoundTrip.{Bytes, WritesBack}
-use Rattle.sheet_laws.proofs.Groups.{row_of, groups, all_rows}
+use Rattle.sheet_laws.proofs.Groups.{groups, all_rows}
 
 -- ---- a word of the kind that is due, and the order of those after it
 abbrev due : ℕ → ℕ → Type 0

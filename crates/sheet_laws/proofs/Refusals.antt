@@ -1,5 +1,5 @@
 -- Each refusal of a sheet has its number for exactly its reason: layout, then count, then codes, then the values, whose checks have other numbers.
-use mathlib.Core.Path.{◌≡◌, refl, sym, ap, ◌∙◌, subst}
+use mathlib.Core.Path.{◌≡◌, refl, sym, ap, ◌∙◌}
 use mathlib.Core.Bool.{Bool, true, false, ◌&&◌, cond}
 use mathlib.Core.List.{List, [], ◌∷◌, ◌++◌, map}
 use Prim.Native.Nat.{ℕ, ◌≤◌}
@@ -9,11 +9,9 @@ use Rattle.elementary.specs.Refusal.{number_of}
 use Rattle.elementary.specs.declared.error.Refusal.TheVariants as Why
 use Rattle.arguments.specs.declared.Verdict.{Verdict}
 use Rattle.arguments.specs.declared.Verdict.TheVariants as Verdict
-use Rattle.arguments.specs.Check.{Check, verdict, vessel_checks, contact_checks, distance_checks}
+use Rattle.arguments.specs.Check.{Check, verdict}
 use Rattle.arguments.proofs.Checks.{verdict_joined}
 use Rattle.situation.specs.Arguments.{perhaps_checks, party_checks}
-use Rattle.constraints.specs.Constraints.{alteration_checks}
-use Rattle.traffic.specs.declared.Entry.{Entry}
 use Rattle.traffic.specs.Traffic.{entry_checks, contacts_checks}
 use Rattle.sheet_words.specs.Word.{words, layout}
 use Rattle.sheet_record.specs.declared.Wind.{Wind}
@@ -22,8 +20,8 @@ use Rattle.sheet_record.specs.declared.Header.{Header}
 use Rattle.sheet_record.specs.declared.Row.{Row}
 use Rattle.sheet_record.specs.declared.Readable.TheVariants as Readable
 use Rattle.sheet_record.specs.Record.{header_of, rows_of, readable}
-use Rattle.sheet_values.specs.Values.{scaled, party_of, own_of, wind_by, wind_from, entry_of}
-use Rattle.sheet.specs.Sheet.{category_checks, code_checks, limit_checks, value_checks, by_layout, sheet_verdict}
+use Rattle.sheet_values.specs.Values.{party_of, wind_by, wind_from, entry_of}
+use Rattle.sheet.specs.Sheet.{category_checks, code_checks, value_checks, by_layout, sheet_verdict}
 use Rattle.sheet_laws.specs.Exactly.{few, known_rows, known, codes, values, number_in, Exactly}
 
 -- ---- the numbers of the values' checks

@@ -1,5 +1,5 @@
 -- Every word becomes an f64 without loss (01): a count below 2^53, and so every 28-bit value, is exactly so many 1/1024.
-use Rattle.std.proofs.Common.{◌≡◌, ℕ, ◌+◌, ◌*◌, ◌^◌, ◌<◌, ◌≤◌, Bool, true, false, pos, refl, ap, true≢false, lt_trans, lt_of_le_of_lt, le_of_lt, mul-le-mul_right, arith, lit<, lit≤}
+use Rattle.std.proofs.Common.{◌≡◌, ℕ, ◌*◌, ◌^◌, ◌<◌, true, false, pos, refl, ap, true≢false, lt_trans, lt_of_le_of_lt, le_of_lt, mul-le-mul_right, arith, lit<}
 use lib.Ieee.{Float, nan, inf, fin, binary64, up, down, div, round, of_int, of_bits}
 use lib.Ieee.Exact.{HasValue, round_exact}
 use lib.Ieee.Fits.{down_pos}

@@ -1,5 +1,5 @@
 -- The loop that makes the traffic: the first i entries are those of the first i rows.
-use Rattle.std.proofs.Common.{◌≡◌, ℕ, suc, ◌+◌, ◌<◌, min, List, [], ◌∷◌, ◌++◌, map, length, get_or, take, set, sym, refl, ap, ◌∙◌, subst, add-one, length-set, take-suc, take-suc-set}
+use Rattle.std.proofs.Common.{◌≡◌, ℕ, ◌+◌, ◌<◌, min, List, [], ◌∷◌, ◌++◌, map, length, get_or, take, set, sym, refl, ap, ◌∙◌, subst, add-one, length-set, take-suc, take-suc-set}
 use mathlib.Core.List.{map-append}
 use Rattle.room.specs.Room.{max_contacts}
 use Rattle.room.proofs.Counts.{take-held}

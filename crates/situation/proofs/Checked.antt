@@ -1,5 +1,5 @@
 -- What the code of the checks owes.
-use mathlib.Core.Path.{◌≡◌, refl, sym, ap, ◌∙◌}
+use mathlib.Core.Path.{◌≡◌, sym, ap, ◌∙◌}
 use mathlib.Core.Bool.{Bool, cond}
 use mathlib.Core.List.{◌++◌}
 use Rattle.elementary.specs.declared.error.Refusal.TheVariants as Why

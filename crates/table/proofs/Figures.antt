@@ -3,7 +3,6 @@ use mathlib.Core.Bool.{true, false}
 use mathlib.Core.List.{List, [], ◌∷◌}
 use Prim.Native.Nat.{ℕ, suc, ◌+◌, ◌*◌, ◌/◌, ◌%◌}
 use lib.Ieee.{Float, binary64, of_bits, to_bits}
-use Rattle.elementary.specs.Refusal.{number_of}
 use Rattle.motion.specs.declared.units.Angle.{Angle}
 use Rattle.motion.specs.declared.units.Distance.{Distance}
 use Rattle.motion.specs.declared.units.RateOfTurn.{RateOfTurn}

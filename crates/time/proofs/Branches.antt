@@ -9,7 +9,6 @@ use Rattle.laws.proofs.Bools.{holds, fails, refuted, or_right, or_elim, same_tes
 use Rattle.laws.proofs.Order.{eq_sym, eq-lt}
 use Rattle.laws.proofs.Whole.{closest-zero}
 use Rattle.time.specs.declared.Duration.{Duration}
-use Rattle.time.specs.declared.TimeAnswer.{TimeAnswer}
 use Rattle.time.specs.declared.TimeAnswer.TheVariants.{Of, TooLong, NoTime}
 use Rattle.time.specs.Clock.{zero as none, too_long, clock, nanos_in, from_seconds, is_before, longest, is_accepted}
 use Rattle.time.proofs.Nanoseconds.{clock_of}

@@ -1,6 +1,5 @@
 -- The loops over the entries: the scene that is filled from the front, and the checks, which are joined from the back.
-use mathlib.Core.Path.{◌≡◌, refl, sym, ap, ◌∙◌, subst}
-use mathlib.Core.Bool.{Bool, not, cond}
+use mathlib.Core.Path.{◌≡◌, sym, ap, ◌∙◌, subst}
 use mathlib.Core.List.{List, [], ◌∷◌, ◌++◌, map, map-map, map-append}
 use Prim.Native.Nat.{ℕ, suc, ◌+◌, ◌-◌, ◌≤◌, ◌<◌, min}
 use native.Mathlib.Numerals.{add-one}
@@ -12,7 +11,7 @@ use Rattle.arguments.specs.Check.{verdict}
 use Rattle.arguments.proofs.Checks.{verdict_joined}
 use Rattle.passages.specs.declared.Moving.{Moving}
 use Rattle.clearing.specs.Clearing.{moving}
-use Rattle.room.proofs.Counts.{take-held, fits}
+use Rattle.room.proofs.Counts.{take-held}
 use Rattle.traffic.specs.declared.Entry.{Entry}
 use Rattle.traffic.specs.Traffic.{target_of, entry_checks, contacts_checks}
 

@@ -7,7 +7,7 @@ use native.Mathlib.Omega.{arith}
 use lib.IntN.{pos}
 use lib.Dec.{T, ltb, ltb→lt, nltb→le, lit≤}
 use lib.Pow.{pow_pos}
-use lib.Ieee.{Float, binary64, lt, le, eq, of_bits, of_int, round, to_unsigned}
+use lib.Ieee.{Float, binary64, lt, le, of_bits, of_int, to_unsigned}
 use lib.Ieee.Scale.{grid, finite}
 use Rattle.laws.specs.Ops.{◌⊕◌, ◌⊖◌}
 use Rattle.laws.specs.Units.{Units, units_of}

@@ -4,14 +4,14 @@ use mathlib.Core.Path.{◌≡◌, refl, sym, ap, ◌∙◌, subst}
 use mathlib.Core.Bool.{Bool, true, false, not, ◌||◌, cond, true≢false}
 use mathlib.Core.Logic.{⊎_elim}
 use Prim.Native.Nat.{ℕ, suc, ◌+◌, ◌*◌, ◌-◌, ◌^◌, ◌/◌, ◌%◌, ◌≤◌, ◌<◌}
-use native.Mathlib.Nat.{le_trans, le_of_lt, le_of_eq, le-add_left, eq-or-lt_of_le, lt_of_le_of_lt, lt_of_lt_of_le, mul-pos, mul_comm, mul_assoc, mul-lt-mul_of_pos_right, mul-le-mul_left, mul-le-mul_right, lt_of_mul-lt-mul_right, pow-succ', add-suc, mod-lt, mod-eq_of_lt, add-mul-mod_self_left, div-add-mod', sub-le}
+use native.Mathlib.Nat.{le_of_lt, le_of_eq, le-add_left, eq-or-lt_of_le, lt_of_le_of_lt, lt_of_lt_of_le, mul-pos, mul_assoc, mul-lt-mul_of_pos_right, mul-le-mul_left, lt_of_mul-lt-mul_right, pow-succ', add-suc, mod-lt, mod-eq_of_lt, add-mul-mod_self_left, div-add-mod', sub-le}
 use native.Mathlib.Omega.{arith}
 use lib.Dec.{T, ltb, eqb, ltb→lt, lt→ltb, nltb→le, eqb→eq, lit<, lit≤}
 use borrow.Author.Tests.{eqb-false}
 use lib.Ieee.Bits.{is_true}
 use lib.Pow.{pow_pos, pow-add, pow_mono}
 use lib.Ieee.{Float, nan, inf, fin, binary64, fits, up, down, sub, mul, neg, rem, round, lt, le, of_bits}
-use lib.Ieee.Exact.{HasValue, round_exact}
+use lib.Ieee.Exact.{round_exact}
 use lib.Ieee.Fits.{down_pos, sub-fits}
 use Rattle.laws.specs.Units.{Units, sign, units_of}
 use Rattle.laws.proofs.Numbers.{sub-mul}
@@ -20,7 +20,7 @@ use Rattle.laws.proofs.Compare.{lt-units, lt-units-signed, le-units}
 use Rattle.laws.proofs.Bools.{holds, refuted}
 use Rattle.laws.proofs.Order.{lt_trans, lt-neg}
 use Rattle.laws.proofs.Exact.{round_own}
-use Rattle.laws.proofs.Units.{form, own_units, units_are, finite_of_units, rescale, sub-units, mul-units, neg-units}
+use Rattle.laws.proofs.Units.{form, own_units, units_are, finite_of_units, rescale, sub-units, mul-units}
 use Rattle.math.proofs.Sign.{neg-round}
 use Rattle.turns.specs.Turns.{zero, full_turn, full, Left, Rest}
 

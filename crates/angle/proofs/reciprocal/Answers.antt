@@ -1,5 +1,4 @@
 use Rattle.angle.specs.Fold.{reciprocal}
-use borrow.Author.Rules.{rules}
 use Rattle.angle.proofs.reciprocal.Goals as goal
 
 pub returns : goal.returns

@@ -1,5 +1,4 @@
 use Rattle.angle.proofs.Branches.{over_half, within_half}
-use borrow.Author.Rules.{rules}
 use Rattle.angle.proofs.wrap180.Goals as goal
 
 pub returns-then-whole : goal.returns-then-whole

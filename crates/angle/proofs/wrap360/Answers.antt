@@ -1,4 +1,4 @@
-use mathlib.Core.Path.{◌≡◌, ap, ◌∙◌}
+use mathlib.Core.Path.{ap, ◌∙◌}
 use Rattle.angle.specs.Fold.{turned}
 use Rattle.angle.proofs.Branches.{full, not_full}
 use Rattle.angle.proofs.wrap360.Goals as goal

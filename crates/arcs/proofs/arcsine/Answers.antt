@@ -1,7 +1,6 @@
 use Rattle.grid.specs.Arcsine.{arcsine_steps}
 use native.Mathlib.Omega.{arith}
 use Rattle.grid.proofs.Scaling.{low_case, high_case, top_case}
-use borrow.Author.Rules.{rules}
 use Rattle.arcs.proofs.arcsine.Goals as goal
 
 pub returns-then-x-lt-SINE_OF_LAST : goal.returns-then-x-lt-SINE_OF_LAST

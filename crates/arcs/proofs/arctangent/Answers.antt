@@ -4,7 +4,6 @@ use Prim.Native.Nat.{◌≤◌}
 use mathlib.Core.Path.{sym, subst}
 use Rattle.arcs.proofs.Checks.{tangent_within as named}
 use Rattle.series.proofs.Halves.{above}
-use borrow.Author.Rules.{rules}
 use Rattle.arcs.proofs.arctangent.Goals as goal
 
 pub returns-then-u : goal.returns-then-u

@@ -1,7 +1,6 @@
-use Prim.Native.Nat.{◌+◌, ◌^◌, ◌≤◌}
-use mathlib.Core.Path.{◌≡◌, refl}
+use mathlib.Core.Path.{refl}
 use Rattle.grid.proofs.Searching.{halved, turned}
-use Rattle.grid.specs.Search.{greatest, up_to, greatest_to}
+use Rattle.grid.specs.Search.{up_to}
 use Rattle.grid.specs.Grid.{last_step}
 use Rattle.arcs.specs.Goal.{test}
 use Rattle.arcs.proofs.Checks.{begins, kept, passed_over}

@@ -1,11 +1,8 @@
 use Prim.Native.Nat.{◌+◌, ◌^◌, ◌≤◌}
-use mathlib.Core.Path.{◌≡◌, refl}
-use Rattle.grid.proofs.Searching.{halved, turned}
+use mathlib.Core.Path.{◌≡◌}
 use Rattle.grid.specs.Search.{greatest, up_to, greatest_to}
 use Rattle.grid.specs.Grid.{last_step}
 use Rattle.arcs.specs.Goal.{test}
-use Rattle.arcs.proofs.Checks.{begins, kept, passed_over}
-use native.Mathlib.Omega.{arith}
 use Rattle.arcs.proofs.by_halves.Given as goal
 
 abbrev pub invariant-loop-left : goal.invariant-loop-left

@@ -1,6 +1,5 @@
 use Rattle.grid.specs.Grid.{cosine_step}
 use native.Mathlib.Omega.{arith}
-use borrow.Author.Rules.{rules}
 use Rattle.arcs.proofs.cosine_at.Goals as goal
 
 pub returns : goal.returns

@@ -5,9 +5,7 @@ use mathlib.Core.Path.{sym, ap, ◌∙◌, subst}
 use Rattle.arcs.specs.Goal.{test, Small}
 use Rattle.arcs.proofs.Checks.{too_far, near_enough, square-small}
 use native.Mathlib.Omega.{arith}
-use borrow.Author.Rules.{rules}
 use Rattle.arcs.proofs.passes.Goals as goal
-use Rattle.arcs.proofs.passes.Lts as at
 
 pub returns-then-a-gt-LAST : goal.returns-then-a-gt-LAST
 returns-then-a-gt-LAST c = too_far (test c.args.goal) c.args.a c.if-a-gt-LAST.true

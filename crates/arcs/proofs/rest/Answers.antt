@@ -1,6 +1,5 @@
 use Rattle.grid.specs.Arcsine.{upper_steps}
 use Rattle.grid.proofs.Scaling.{fit, rest_of, rest-small}
-use borrow.Author.Rules.{rules}
 use Rattle.arcs.proofs.rest.Goals as goal
 
 pub rest-requires : goal.rest-requires

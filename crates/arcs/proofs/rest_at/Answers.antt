@@ -3,7 +3,6 @@ use Prim.Native.Nat.{◌*◌}
 use native.Mathlib.Nat.{le_trans, div-le_self}
 use Rattle.arcs.proofs.Checks.{square-small, square-pos, rest_is}
 use native.Mathlib.Omega.{arith}
-use borrow.Author.Rules.{rules}
 use Rattle.arcs.proofs.rest_at.Goals as goal
 
 pub overflow_mul-f : goal.overflow_mul-f

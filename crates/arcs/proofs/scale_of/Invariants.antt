@@ -1,8 +1,6 @@
 use Rattle.grid.specs.Arcsine.{scale_from, scale}
 use Prim.Native.Nat.{◌*◌, ◌^◌, ◌≤◌}
 use mathlib.Core.Path.{◌≡◌}
-use native.Mathlib.Omega.{arith}
-use Rattle.grid.proofs.Scaling.{scale_begins, scale_here, scale_more, scale_ends}
 use Rattle.arcs.proofs.scale_of.Given as goal
 
 abbrev pub invariant-loop-left : goal.invariant-loop-left

@@ -5,7 +5,6 @@ use Prim.Native.Nat.{◌≤◌}
 use native.Mathlib.Nat.{le_of_lt}
 use native.Mathlib.Omega.{arith}
 use Rattle.arcs.proofs.Checks.{only, named, at_last, passes_last}
-use borrow.Author.Rules.{rules}
 use Rattle.arcs.proofs.search.Goals as goal
 
 pub returns-then-settled : goal.returns-then-settled

@@ -2,7 +2,6 @@ use Rattle.grid.specs.Search.{Found}
 use Rattle.grid.specs.Grid.{last_step}
 use mathlib.Core.Path.{sym, subst}
 use Rattle.arcs.specs.Goal.{test, Small}
-use borrow.Author.Rules.{rules}
 use Rattle.arcs.proofs.settled.Goals as goal
 
 pub settled_sine-requires : goal.settled_sine-requires

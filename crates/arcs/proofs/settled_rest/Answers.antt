@@ -4,9 +4,7 @@ use Prim.Native.Nat.{◌*◌, ◌/◌}
 use native.Mathlib.Nat.{le_trans, div-le_self}
 use native.Mathlib.Omega.{arith}
 use Rattle.arcs.proofs.Checks.{square-small, square-pos, rest_next, rest_settled, rest-value}
-use borrow.Author.Rules.{rules}
 use Rattle.arcs.proofs.settled_rest.Goals as goal
-use Rattle.arcs.proofs.settled_rest.Lts as at
 
 pub overflow_mul-twice : goal.overflow_mul-twice
 overflow_mul-twice c = omega (arith, square-small c.args.f c.requires.1)

@@ -1,9 +1,7 @@
 use mathlib.Core.Path.{sym}
 use mathlib.Core.Bool.{true≢false}
 use Rattle.arcs.proofs.Checks.{sine_next, sine_settled, sine_of}
-use borrow.Author.Rules.{rules}
 use Rattle.arcs.proofs.settled_sine.Goals as goal
-use Rattle.arcs.proofs.settled_sine.Lts as at
 
 pub returns-then-x-s : goal.returns-then-x-s
 returns-then-x-s c = λ e. absurd (true≢false (sym e))

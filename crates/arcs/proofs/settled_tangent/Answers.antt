@@ -1,7 +1,6 @@
 use mathlib.Core.Path.{sym}
 use mathlib.Core.Bool.{true≢false}
 use Rattle.arcs.proofs.Checks.{tangent_settled, tangent_settled_next}
-use borrow.Author.Rules.{rules}
 use Rattle.arcs.proofs.settled_tangent.Goals as goal
 
 pub returns-then-h-g : goal.returns-then-h-g

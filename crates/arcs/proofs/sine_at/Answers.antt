@@ -1,6 +1,5 @@
 use Rattle.grid.specs.Grid.{sine_step}
 use native.Mathlib.Omega.{arith}
-use borrow.Author.Rules.{rules}
 use Rattle.arcs.proofs.sine_at.Goals as goal
 
 pub returns : goal.returns

@@ -1,6 +1,6 @@
 use Rattle.arcsine.proofs.Arcsines.{asks_units, answer_tiny, answer_negative, answer_inside, answer_above}
 use Rattle.laws.proofs.Exact.{zero_by_zero}
-use Rattle.std.proofs.Common.{T, sym, ◌∙◌, subst, rules}
+use Rattle.std.proofs.Common.{T, sym, ◌∙◌, subst}
 use Rattle.arcsine.proofs.asin.Goals as goal
 
 pub returns-then-x-2 : goal.returns-then-x-2

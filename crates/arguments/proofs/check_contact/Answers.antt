@@ -1,6 +1,4 @@
 use Rattle.arguments.proofs.Checks.{two_checks}
-use Rattle.arguments.specs.Check.{verdict}
-use borrow.Author.Rules.{rules}
 use Rattle.arguments.proofs.check_contact.Goals as goal
 
 pub returns : goal.returns

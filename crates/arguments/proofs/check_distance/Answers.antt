@@ -1,6 +1,4 @@
 use Rattle.arguments.proofs.Checks.{one-check}
-use Rattle.arguments.specs.Check.{verdict}
-use borrow.Author.Rules.{rules}
 use Rattle.arguments.proofs.check_distance.Goals as goal
 
 pub returns : goal.returns

@@ -1,5 +1,4 @@
 use Rattle.arguments.proofs.Checks.{encounter_checked}
-use borrow.Author.Rules.{rules}
 use Rattle.arguments.proofs.check_encounter.Goals as goal
 
 pub returns : goal.returns

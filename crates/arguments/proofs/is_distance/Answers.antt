@@ -1,5 +1,4 @@
 use Rattle.arguments.specs.Check.{is_distance}
-use borrow.Author.Rules.{rules}
 use Rattle.arguments.proofs.is_distance.Goals as goal
 
 pub returns : goal.returns

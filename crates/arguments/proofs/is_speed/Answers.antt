@@ -1,5 +1,4 @@
 use Rattle.arguments.specs.Check.{is_speed}
-use borrow.Author.Rules.{rules}
 use Rattle.arguments.proofs.is_speed.Goals as goal
 
 pub returns : goal.returns

@@ -1,5 +1,4 @@
 use Rattle.avoid.proofs.Steps.{no_trial, a_trial}
-use borrow.Author.Rules.{rules}
 use Rattle.avoid.proofs.answered.Goals as goal
 
 pub returns-in-Nothing : goal.returns-in-Nothing

@@ -2,7 +2,6 @@ use mathlib.Core.Path.{◌≡◌, sym, subst}
 use mathlib.Core.Bool.{Bool, true}
 use lib.Dec.{T}
 use Rattle.avoid.proofs.Seeds.{HeldEncounter, accepted, refused, checked}
-use borrow.Author.Rules.{rules}
 use Rattle.avoid.proofs.avoid.Goals as goal
 
 is_held : {b : Bool} → b ≡ true → T b

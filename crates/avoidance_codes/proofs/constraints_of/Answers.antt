@@ -2,7 +2,6 @@ use borrow.Author.Tests.{eq-eqb, ne_eqb}
 use mathlib.Core.Path.{refl}
 use Rattle.avoidance_codes.specs.Codes.{constraints_of}
 use Rattle.avoidance_codes.proofs.Made.{by_rate, not_made}
-use borrow.Author.Rules.{rules}
 use Rattle.avoidance_codes.proofs.constraints_of.Goals as goal
 
 pub returns-then-known-eq0 : goal.returns-then-known-eq0

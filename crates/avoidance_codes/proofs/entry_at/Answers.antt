@@ -1,8 +1,6 @@
 use mathlib.Core.Path.{refl}
 use Rattle.avoidance_codes.specs.Codes.{entry_at}
-use borrow.Author.Rules.{rules}
 use Rattle.avoidance_codes.proofs.entry_at.Goals as goal
-use Rattle.avoidance_codes.proofs.entry_at.Lts as at
 
 pub returns : goal.returns
 unfolding entry_at

@@ -1,6 +1,5 @@
 use mathlib.Core.Path.{refl}
 use Rattle.avoidance_codes.specs.Codes.{place_of}
-use borrow.Author.Rules.{rules}
 use Rattle.avoidance_codes.proofs.place_of.Goals as goal
 
 pub returns-then-wide : goal.returns-then-wide

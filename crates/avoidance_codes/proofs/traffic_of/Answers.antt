@@ -1,11 +1,8 @@
-use Prim.Native.Nat.{ℕ, ◌+◌, ◌-◌, ◌≤◌, ◌<◌, min}
-use mathlib.Core.Path.{◌≡◌, refl, sym, subst}
+use Prim.Native.Nat.{◌-◌, ◌<◌}
+use mathlib.Core.Path.{refl, sym, subst}
 use native.Mathlib.Omega.{arith}
-use borrow.Author.Rules.{rules}
-use lib.ListN.{length}
-use Rattle.room.specs.Room.{max_contacts}
 use Rattle.traffic.specs.Traffic.{contacts}
-use Rattle.avoidance_codes.proofs.Filling.{Filled, none, more, filled, placed}
+use Rattle.avoidance_codes.proofs.Filling.{none, more, filled, placed}
 use Rattle.avoidance_codes.proofs.traffic_of.Goals as goal
 
 pub entry_at-nobody-requires : goal.entry_at-nobody-requires

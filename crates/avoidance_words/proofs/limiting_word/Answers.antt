@@ -1,5 +1,4 @@
 use mathlib.Core.Path.{refl}
-use borrow.Author.Rules.{rules}
 use Rattle.avoidance_words.proofs.limiting_word.Goals as goal
 
 pub returns-in-Contact : goal.returns-in-Contact

@@ -1,5 +1,4 @@
 use mathlib.Core.Path.{refl}
-use borrow.Author.Rules.{rules}
 use Rattle.avoidance_words.proofs.turned.Goals as goal
 
 pub returns-in-Nothing : goal.returns-in-Nothing

@@ -1,5 +1,4 @@
 use Rattle.best_course.proofs.Offers.{larger-first, larger_new, larger_kept}
-use borrow.Author.Rules.{rules}
 use Rattle.best_course.proofs.larger.Goals as goal
 
 pub returns-then-alteration-most : goal.returns-then-alteration-most

@@ -1,5 +1,4 @@
 use Rattle.best_course.proofs.Offers.{to_starboard_lem, to_port, to_neither}
-use borrow.Author.Rules.{rules}
 use Rattle.best_course.proofs.offered.Goals as goal
 
 pub returns-then-alteration : goal.returns-then-alteration

@@ -1,5 +1,4 @@
 use Rattle.best_course.proofs.Offers.{smaller-first, smaller_new, smaller_kept}
-use borrow.Author.Rules.{rules}
 use Rattle.best_course.proofs.smaller.Goals as goal
 
 pub returns-then-alteration-least : goal.returns-then-alteration-least

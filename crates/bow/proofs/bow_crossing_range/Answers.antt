@@ -1,5 +1,4 @@
 use Rattle.bow.proofs.Crossings.{crossed, crossing-refused}
-use borrow.Author.Rules.{rules}
 use Rattle.bow.proofs.bow_crossing_range.Goals as goal
 
 pub returns-in-Accepted : goal.returns-in-Accepted

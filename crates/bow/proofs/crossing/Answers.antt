@@ -1,5 +1,4 @@
 use Rattle.bow.proofs.Crossings.{on_own_track, in-the-past, astern, ahead_of_bow}
-use borrow.Author.Rules.{rules}
 use Rattle.bow.proofs.crossing.Goals as goal
 
 pub returns-then-abs : goal.returns-then-abs

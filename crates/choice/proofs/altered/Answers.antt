@@ -1,6 +1,5 @@
 use mathlib.Core.Path.{refl}
 use Rattle.clearing.specs.Clearing.{altered}
-use borrow.Author.Rules.{rules}
 use Rattle.choice.proofs.altered.Goals as goal
 
 pub returns : goal.returns

@@ -1,5 +1,4 @@
 use Rattle.choice.proofs.Tries.{is_chosen}
-use borrow.Author.Rules.{rules}
 use Rattle.choice.proofs.chosen_if.Goals as goal
 
 pub returns-in-Yes : goal.returns-in-Yes

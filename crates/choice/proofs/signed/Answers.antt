@@ -1,6 +1,5 @@
 use mathlib.Core.Path.{refl}
 use Rattle.choice.proofs.Tries.{to_port}
-use borrow.Author.Rules.{rules}
 use Rattle.choice.proofs.signed.Goals as goal
 
 pub returns-in-Port : goal.returns-in-Port

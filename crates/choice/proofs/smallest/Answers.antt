@@ -1,14 +1,13 @@
-use Prim.Native.Nat.{ℕ, suc, ◌+◌, ◌-◌, ◌≤◌, ◌<◌}
+use Prim.Native.Nat.{suc, ◌-◌, ◌<◌}
 use mathlib.Core.Path.{◌≡◌, refl, sym, ◌∙◌, ap, subst}
 use mathlib.Core.List.{◌∷◌}
 use native.Mathlib.Omega.{arith}
-use borrow.Author.Rules.{rules}
 use lib.ListN.{length, drop}
 use Rattle.clearing.specs.Clearing.{movings}
 use Rattle.trials.specs.Trials.{trial, trials}
 use Rattle.trials.proofs.Listed.{next}
 use Rattle.choice.specs.Choice.{both, between, clears_on, tried_both, smallest}
-use Rattle.choice.proofs.Tries.{left, found, goes_on, none}
+use Rattle.choice.proofs.Tries.{found, goes_on, none}
 use Rattle.choice.proofs.smallest.Goals as goal
 
 pub loop-k-init : goal.loop-k-init

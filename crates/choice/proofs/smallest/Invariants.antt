@@ -1,14 +1,9 @@
-use Prim.Native.Nat.{ℕ, suc, ◌+◌, ◌-◌, ◌≤◌, ◌<◌}
-use mathlib.Core.Path.{◌≡◌, refl, sym, ◌∙◌, ap, subst}
-use mathlib.Core.List.{◌∷◌}
-use native.Mathlib.Omega.{arith}
-use borrow.Author.Rules.{rules}
-use lib.ListN.{length, drop}
+use Prim.Native.Nat.{◌-◌, ◌≤◌}
+use mathlib.Core.Path.{◌≡◌}
 use Rattle.clearing.specs.Clearing.{movings}
-use Rattle.trials.specs.Trials.{trial, trials}
-use Rattle.trials.proofs.Listed.{next}
-use Rattle.choice.specs.Choice.{both, between, clears_on, tried_both, smallest}
-use Rattle.choice.proofs.Tries.{left, found, goes_on, none}
+use Rattle.trials.specs.Trials.{trials}
+use Rattle.choice.specs.Choice.{clears_on}
+use Rattle.choice.proofs.Tries.{left}
 use Rattle.choice.proofs.smallest.Given as goal
 
 abbrev pub invariant-loop-k : goal.invariant-loop-k

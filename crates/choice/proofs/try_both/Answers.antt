@@ -1,5 +1,4 @@
 use Rattle.choice.proofs.Tries.{starboard_first, then-port}
-use borrow.Author.Rules.{rules}
 use Rattle.choice.proofs.try_both.Goals as goal
 
 pub returns-in-Of : goal.returns-in-Of

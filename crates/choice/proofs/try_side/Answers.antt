@@ -1,5 +1,4 @@
 use Rattle.choice.proofs.Tries.{is_tried}
-use borrow.Author.Rules.{rules}
 use Rattle.choice.proofs.try_side.Goals as goal
 
 pub returns-then-permitted : goal.returns-then-permitted

@@ -1,4 +1,4 @@
-use Rattle.std.proofs.Common.{T, sym, subst, arith, rules}
+use Rattle.std.proofs.Common.{T, sym, subst, arith}
 use Rattle.circular.proofs.Steps.{asks_units, small-rest, cos_inside, cos_outside}
 use Rattle.circular.proofs.cos.Goals as goal
 

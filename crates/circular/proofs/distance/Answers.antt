@@ -1,5 +1,4 @@
 use Rattle.circular.proofs.Steps.{distance_below, distance_above}
-use Rattle.std.proofs.Common.{rules}
 use Rattle.circular.proofs.distance.Goals as goal
 
 pub returns-then-a-b : goal.returns-then-a-b

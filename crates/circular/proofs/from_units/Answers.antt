@@ -1,6 +1,5 @@
 use lib.Ieee.{of_bits}
 use Rattle.circular.proofs.Steps.{grid_holds, grid_set, grid_clear}
-use Rattle.std.proofs.Common.{rules}
 use Rattle.circular.proofs.from_units.Goals as goal
 
 pub int_to_float-y : goal.int_to_float-y

@@ -1,5 +1,5 @@
 use Rattle.circular.proofs.Division.{keeps, steps_back}
-use Rattle.std.proofs.Common.{refl, rules}
+use Rattle.std.proofs.Common.{refl}
 use Rattle.circular.proofs.quarters.Goals as goal
 
 pub returns-then-shifted-k : goal.returns-then-shifted-k

@@ -1,4 +1,4 @@
-use Rattle.std.proofs.Common.{T, sym, subst, arith, rules}
+use Rattle.std.proofs.Common.{T, sym, subst, arith}
 use Rattle.circular.proofs.Steps.{asks_units, small-rest, sin-tiny, sin-negative, sin_positive, sin_outside}
 use Rattle.circular.proofs.sin.Goals as goal
 

@@ -1,5 +1,4 @@
 use Rattle.circular.proofs.Steps.{left_few, by_sine, by_cosine}
-use Rattle.std.proofs.Common.{rules}
 use Rattle.circular.proofs.turned.Goals as goal
 
 pub returns-then-q-eq0 : goal.returns-then-q-eq0

@@ -1,5 +1,4 @@
 use Rattle.clearing.proofs.Steps.{free, passes_least}
-use borrow.Author.Rules.{rules}
 use Rattle.clearing.proofs.cleared.Goals as goal
 
 pub returns-in-Free : goal.returns-in-Free

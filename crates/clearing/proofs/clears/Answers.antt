@@ -1,5 +1,4 @@
 use mathlib.Core.Path.{sym}
-use borrow.Author.Rules.{rules}
 use Rattle.clearing.proofs.clears.Goals as goal
 
 pub returns-then-suspect_blocks : goal.returns-then-suspect_blocks

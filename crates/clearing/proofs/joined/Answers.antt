@@ -1,5 +1,4 @@
 use Rattle.clearing.proofs.Steps.{stopped, stays_stopped, first, closer, not_closer}
-use borrow.Author.Rules.{rules}
 use Rattle.clearing.proofs.joined.Goals as goal
 
 pub returns-then-d-least : goal.returns-then-d-least

@@ -1,12 +1,4 @@
-use Prim.Native.Nat.{ℕ, ◌+◌, ◌-◌, ◌≤◌, ◌<◌, min}
-use mathlib.Core.Path.{◌≡◌, sym, ◌∙◌, ap}
-use native.Mathlib.Omega.{arith}
-use borrow.Author.Rules.{rules}
-use lib.ListN.{length, length-map}
-use Rattle.room.specs.Room.{max_contacts}
-use Rattle.room.proofs.Counts.{fits}
-use Rattle.clearing.specs.Clearing.{passage_at, movings, cleared, clears_at}
-use Rattle.clearing.proofs.Loop.{one_blocks, whole, no}
+use Prim.Native.Nat.{◌-◌, ◌≤◌}
 use Rattle.clearing.proofs.suspect_blocks.Given as goal
 
 abbrev pub invariant-loop-k : goal.invariant-loop-k

@@ -1,13 +1,8 @@
-use Prim.Native.Nat.{ℕ, ◌+◌, ◌-◌, ◌≤◌, ◌<◌, min}
-use mathlib.Core.Path.{◌≡◌, refl, sym, ◌∙◌, ap}
-use native.Mathlib.Omega.{arith}
-use borrow.Author.Rules.{rules}
-use lib.ListN.{length, length-map}
+use Prim.Native.Nat.{◌-◌, ◌≤◌}
+use mathlib.Core.Path.{◌≡◌}
 use Rattle.clearing.specs.declared.Tally.TheVariants.{Free}
-use Rattle.room.specs.Room.{max_contacts}
-use Rattle.room.proofs.Counts.{fits}
-use Rattle.clearing.specs.Clearing.{passage_at, movings, cleared, clears_at}
-use Rattle.clearing.proofs.Loop.{left, step, done, stopped, whole}
+use Rattle.clearing.specs.Clearing.{passage_at}
+use Rattle.clearing.proofs.Loop.{left}
 use Rattle.clearing.proofs.tallied.Given as goal
 
 abbrev pub invariant-loop-i : goal.invariant-loop-i

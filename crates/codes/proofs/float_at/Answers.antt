@@ -1,7 +1,6 @@
 use mathlib.Core.Path.{sym}
 use lib.Ieee.{nan}
 use Rattle.codes.specs.Codes.{zero}
-use borrow.Author.Rules.{rules}
 use lib.ListN.{get_or-eq_default}
 use Rattle.codes.proofs.Lists.{inside}
 use Rattle.codes.proofs.float_at.Goals as goal

@@ -1,7 +1,6 @@
 use mathlib.Core.Path.{refl}
 use Rattle.codes.specs.Codes.{party}
 use Rattle.codes.proofs.party.Goals as goal
-use Rattle.codes.proofs.party.Lts as at
 
 pub returns : goal.returns
 unfolding party

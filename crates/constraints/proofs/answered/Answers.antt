@@ -1,5 +1,4 @@
 use Rattle.constraints.proofs.Constrained.{accepted, refused}
-use borrow.Author.Rules.{rules}
 use Rattle.constraints.proofs.answered.Goals as goal
 
 pub returns-in-Accepted : goal.returns-in-Accepted

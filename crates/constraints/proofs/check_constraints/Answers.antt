@@ -1,5 +1,4 @@
 use Rattle.constraints.proofs.Constrained.{all_checked}
-use borrow.Author.Rules.{rules}
 use Rattle.constraints.proofs.check_constraints.Goals as goal
 
 pub returns : goal.returns

@@ -1,5 +1,4 @@
 use Rattle.constraints.proofs.Constrained.{no_rate, some_rate}
-use borrow.Author.Rules.{rules}
 use Rattle.constraints.proofs.check_rate.Goals as goal
 
 pub returns-in-Nothing : goal.returns-in-Nothing

@@ -1,5 +1,4 @@
 use Rattle.contact_lines.proofs.Lines.{both-answered, ruling_refused, approach-refused}
-use borrow.Author.Rules.{rules}
 use Rattle.contact_lines.proofs.put_answers.Goals as goal
 
 pub returns-in-Of-ruling : goal.returns-in-Of-ruling

@@ -1,5 +1,4 @@
 use Rattle.course.proofs.Courses.{none-along, some_along}
-use borrow.Author.Rules.{rules}
 use Rattle.course.proofs.along.Goals as goal
 
 pub returns-then-discriminant : goal.returns-then-discriminant

@@ -1,6 +1,4 @@
 use mathlib.Core.Path.{refl}
-use Rattle.course.specs.Course.{alteration_to}
-use borrow.Author.Rules.{rules}
 use Rattle.course.proofs.alteration_to.Goals as goal
 
 pub returns-in-By : goal.returns-in-By

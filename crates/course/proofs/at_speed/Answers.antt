@@ -1,5 +1,4 @@
 use Rattle.course.proofs.Courses.{no_speed, some_speed}
-use borrow.Author.Rules.{rules}
 use Rattle.course.proofs.at_speed.Goals as goal
 
 pub returns-then-relative_speed : goal.returns-then-relative_speed

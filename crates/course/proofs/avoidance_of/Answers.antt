@@ -1,5 +1,4 @@
 use Rattle.course.proofs.Courses.{no_course, some-course}
-use borrow.Author.Rules.{rules}
 use Rattle.course.proofs.avoidance_of.Goals as goal
 
 pub returns-then-is_nothing : goal.returns-then-is_nothing

@@ -1,6 +1,5 @@
 use mathlib.Core.Path.{refl}
 use Rattle.course.specs.Course.{choice_of}
-use borrow.Author.Rules.{rules}
 use Rattle.course.proofs.choice_of.Goals as goal
 
 pub returns : goal.returns

@@ -1,5 +1,4 @@
 use Rattle.course.proofs.Courses.{inside_desired, no_own_speed, outside_desired}
-use borrow.Author.Rules.{rules}
 use Rattle.course.proofs.course_for.Goals as goal
 
 pub returns-then-contact-wanted : goal.returns-then-contact-wanted

@@ -1,5 +1,4 @@
 use Rattle.course.proofs.Courses.{coursed, course-refused}
-use borrow.Author.Rules.{rules}
 use Rattle.course.proofs.course_for_cpa.Goals as goal
 
 pub returns-in-Accepted : goal.returns-in-Accepted

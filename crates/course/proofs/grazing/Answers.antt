@@ -1,6 +1,5 @@
 use mathlib.Core.Path.{refl}
 use Rattle.course.specs.Course.{grazing}
-use borrow.Author.Rules.{rules}
 use Rattle.course.proofs.grazing.Goals as goal
 
 pub returns : goal.returns

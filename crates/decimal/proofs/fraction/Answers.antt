@@ -4,7 +4,6 @@ use lib.Dec.{T}
 use lib.Ieee.{fits, binary64}
 use Rattle.laws.proofs.Pattern.{no_nan_above}
 use Rattle.decimal.proofs.Fields.{field_le, too_small, by_fields, divisor_fits}
-use borrow.Author.Rules.{rules}
 use Rattle.decimal.proofs.fraction.Goals as goal
 
 held : (c : goal.Start) → T (fits binary64 c.args.x)

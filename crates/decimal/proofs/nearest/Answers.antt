@@ -1,7 +1,6 @@
 use native.Mathlib.Nat.{mod-lt, div-le_self}
 use native.Mathlib.Omega.{arith}
 use Rattle.decimal.proofs.Quotient.{rounds_down, rounds_up, at_half}
-use borrow.Author.Rules.{rules}
 use Rattle.decimal.proofs.nearest.Goals as goal
 
 pub overflow_mul-twice : goal.overflow_mul-twice

@@ -1,7 +1,6 @@
 use mathlib.Core.Path.{sym, subst}
 use lib.Dec.{T}
 use Rattle.domains.proofs.Answers.{cos_answer_lem}
-use borrow.Author.Rules.{rules}
 use Rattle.domains.proofs.cos.Goals as goal
 
 pub returns : goal.returns

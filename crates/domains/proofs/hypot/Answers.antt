@@ -1,7 +1,6 @@
 use mathlib.Core.Path.{sym, subst}
 use lib.Dec.{T}
 use Rattle.domains.proofs.Answers.{hypot_answer_lem}
-use borrow.Author.Rules.{rules}
 use Rattle.domains.proofs.hypot.Goals as goal
 
 pub returns : goal.returns

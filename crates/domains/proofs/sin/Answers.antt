@@ -1,7 +1,6 @@
 use mathlib.Core.Path.{sym, subst}
 use lib.Dec.{T}
 use Rattle.domains.proofs.Answers.{sin_answer_lem}
-use borrow.Author.Rules.{rules}
 use Rattle.domains.proofs.sin.Goals as goal
 
 pub returns : goal.returns

@@ -1,5 +1,4 @@
 use mathlib.Core.Path.{refl}
-use borrow.Author.Rules.{rules}
 use Rattle.duties.proofs.beside_sailing.Goals as goal
 
 pub returns-in-Sailing : goal.returns-in-Sailing

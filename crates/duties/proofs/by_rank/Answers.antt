@@ -2,7 +2,6 @@ use Rattle.colregs.specs.Colregs.{rule12, by_says}
 use Rattle.colregs.specs.declared.answer.Rule.TheVariants.{Rule12}
 use mathlib.Core.Path.{ap, ◌∙◌}
 use Rattle.duties.proofs.Duties.{lower, higher, equal}
-use borrow.Author.Rules.{rules}
 use Rattle.duties.proofs.by_rank.Goals as goal
 
 pub returns-then-own_rank-target_rank : goal.returns-then-own_rank-target_rank

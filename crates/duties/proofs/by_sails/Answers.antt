@@ -1,5 +1,3 @@
-use mathlib.Core.Path.{refl}
-use borrow.Author.Rules.{rules}
 use Rattle.duties.proofs.by_sails.Goals as goal
 
 pub returns-in-Sailing : goal.returns-in-Sailing

@@ -1,5 +1,4 @@
 use mathlib.Core.Path.{refl}
-use borrow.Author.Rules.{rules}
 use Rattle.duties.proofs.by_tacks.Goals as goal
 
 pub returns-in-Unknown : goal.returns-in-Unknown

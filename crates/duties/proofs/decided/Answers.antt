@@ -1,6 +1,5 @@
 use Rattle.colregs.specs.Colregs.{decided}
 use mathlib.Core.Path.{refl}
-use borrow.Author.Rules.{rules}
 use Rattle.duties.proofs.decided.Goals as goal
 
 pub returns-in-Restricted : goal.returns-in-Restricted

@@ -1,7 +1,6 @@
 use Rattle.colregs.specs.Colregs.{rule13, by_says, decided, by_rank}
 use Rattle.colregs.specs.declared.answer.Rule.TheVariants.{Rule13}
 use mathlib.Core.Path.{sym, ap, ◌∙◌}
-use borrow.Author.Rules.{rules}
 use Rattle.duties.proofs.in_sight.Goals as goal
 
 pub returns-in-Overtaking : goal.returns-in-Overtaking

@@ -1,5 +1,4 @@
 use Rattle.laws.proofs.Pattern.{no_nan_of_eq}
-use borrow.Author.Rules.{rules}
 use Rattle.elementary_main.proofs.pattern_of.Goals as goal
 
 pub float_to_bits-result : goal.float_to_bits-result

@@ -1,7 +1,6 @@
-use Prim.Native.Nat.{◌≤◌, min}
-use mathlib.Core.Path.{◌≡◌}
+use Prim.Native.Nat.{◌≤◌}
 use native.Mathlib.Omega.{arith}
-use lib.ListN.{length, length-map, length-take}
+use lib.ListN.{length, length-take}
 use Rattle.room.specs.Room.{max_contacts}
 use Rattle.sheet_record.specs.Record.{rows}
 use Rattle.encoding.proofs.Rows.{both}

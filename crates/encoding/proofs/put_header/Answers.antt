@@ -1,7 +1,6 @@
 use mathlib.Core.List.{flat_map}
 use Rattle.text.proofs.Appending.{then}
 use Rattle.encoding.specs.Encode.{bytes_of, header_words}
-use borrow.Author.Rules.{rules}
 use Rattle.encoding.proofs.put_header.Goals as goal
 
 pub returns : goal.returns

@@ -1,18 +1,13 @@
-use Prim.Native.Nat.{ℕ, ◌+◌, ◌-◌, ◌≤◌, ◌<◌, min}
-use mathlib.Core.Path.{◌≡◌, refl, sym, ◌∙◌}
+use Prim.Native.Nat.{◌-◌, ◌≤◌}
+use mathlib.Core.Path.{◌≡◌, refl, ◌∙◌}
 use native.Mathlib.Omega.{arith}
-use borrow.Author.Rules.{rules}
-use lib.ListN.{length, length-map}
-use lib.Seq.{slice}
-use Rattle.laws.specs.Fold.{fold}
+use lib.ListN.{length}
 use Rattle.laws.proofs.Fold.{fold_step, fold_done}
-use Rattle.room.specs.Room.{max_contacts}
 use Rattle.room.proofs.Counts.{fits}
 use Rattle.text.specs.Text.{room, shown}
-use Rattle.text.proofs.Pieces.{with_piece}
 use Rattle.text.proofs.Pieces as Pieces
 use Rattle.sheet_record.specs.Record.{rows}
-use Rattle.encoding.proofs.Rows.{row_bytes, all_joined}
+use Rattle.encoding.proofs.Rows.{all_joined}
 use Rattle.encoding.proofs.put_rows.Goals as goal
 
 pub loop-i-init : goal.loop-i-init
@@ -24,17 +19,9 @@ offset_bounds-rows-i c = omega (arith, c.loop-i-test.true, c.held-count.ensures)
 pub bounds-rows-i : goal.bounds-rows-i
 bounds-rows-i c = omega (arith, c.loop-i-test.true, c.held-count.ensures)
 
--- the rows' list has its room, and no text is longer than its own
-listed : (c : goal.After-put_row-t) → length c.args.rows.list ≡ max_contacts
-listed c = c.well_formed.1.0.1.1.1.0.1.0.1
-
 pub loop-i-preserved : goal.loop-i-preserved
 loop-i-preserved c =
-    (omega arith, fold_step _ _ _ _ _ _ _ c.loop-i-test.true (fits _ _ _ _ c.held-count.ensures (listed c)) c.put_row-t.ensures ∙ c.loop-i.invariant.1)
-
--- the rows' list has its room, and no text is longer than its own
-listed_2 : (c : goal.After-loop-i) → length c.args.rows.list ≡ max_contacts
-listed_2 c = c.well_formed.1.0.1.1.1.0.1.0.1
+    (omega arith, fold_step _ _ _ _ _ _ _ c.loop-i-test.true (fits _ _ _ _ c.held-count.ensures c.well_formed.1.0.1.1.1.0.1.0.1) c.put_row-t.ensures ∙ c.loop-i.invariant.1)
 
 full : (c : goal.After-loop-i) → length c.args.t0.bytes ≡ room
 full c = c.well_formed.0.1.1.0.1.0.1
@@ -48,4 +35,4 @@ reached c = omega (arith, c.loop-i-test.false, c.loop-i.invariant.0)
 pub returns : goal.returns
 unfolding rows
 returns c =
-    all_joined _ _ _ _ _ (within c) c.held-count.ensures (listed_2 c) (fold_done _ _ _ _ _ _ (reached c) c.loop-i.invariant.1)
+    all_joined _ _ _ _ _ (within c) c.held-count.ensures c.well_formed.1.0.1.1.1.0.1.0.1 (fold_done _ _ _ _ _ _ (reached c) c.loop-i.invariant.1)

@@ -1,18 +1,12 @@
-use Prim.Native.Nat.{ℕ, ◌+◌, ◌-◌, ◌≤◌, ◌<◌, min}
-use mathlib.Core.Path.{◌≡◌, refl, sym, ◌∙◌}
-use native.Mathlib.Omega.{arith}
-use borrow.Author.Rules.{rules}
-use lib.ListN.{length, length-map}
+use Prim.Native.Nat.{◌-◌, ◌≤◌}
+use mathlib.Core.Path.{◌≡◌}
 use lib.Seq.{slice}
 use Rattle.laws.specs.Fold.{fold}
-use Rattle.laws.proofs.Fold.{fold_step, fold_done}
-use Rattle.room.specs.Room.{max_contacts}
-use Rattle.room.proofs.Counts.{fits}
-use Rattle.text.specs.Text.{room, shown}
+use Rattle.text.specs.Text.{shown}
 use Rattle.text.proofs.Pieces.{with_piece}
 use Rattle.text.proofs.Pieces as Pieces
 use Rattle.sheet_record.specs.Record.{rows}
-use Rattle.encoding.proofs.Rows.{row_bytes, all_joined}
+use Rattle.encoding.proofs.Rows.{row_bytes}
 use Rattle.encoding.proofs.put_rows.Given as goal
 
 abbrev pub invariant-loop-i : goal.invariant-loop-i

@@ -1,8 +1,7 @@
 use mathlib.Core.Path.{◌≡◌, refl, sym}
 use mathlib.Core.List.{flat_map}
-use lib.ListN.{length, length-map}
-use borrow.Author.Rules.{rules}
-use Rattle.text.specs.Text.{room, shown}
+use lib.ListN.{length}
+use Rattle.text.specs.Text.{room}
 use Rattle.text.proofs.Appending.{nothing_appended}
 use Rattle.text.proofs.Pieces.{fits}
 use Rattle.encoding.specs.Encode.{bytes_of}

@@ -1,7 +1,5 @@
-use Prim.Native.Nat.{◌≤◌, min}
 use native.Mathlib.Omega.{arith}
-use lib.ListN.{length, length-take}
-use borrow.Author.Rules.{rules}
+use lib.ListN.{length-take}
 use Rattle.encounter.proofs.print_report.Goals as goal
 
 pub slice_bounds-bytes-end : goal.slice_bounds-bytes-end

@@ -1,6 +1,5 @@
 use borrow.Author.Tests.{eq-eqb, ne_eqb, lt-ltb, le-ltb}
 use mathlib.Core.Path.{refl, ap, ◌∙◌}
-use Prim.{tt}
 use Rattle.exports_assessment.specs.Words.{nearest_word, crossing_word, assessed_word}
 use Rattle.exports_assessment.proofs.assessed_word.Goals as goal
 

@@ -1,5 +1,4 @@
 use mathlib.Core.Path.{ap, ◌∙◌}
-use Prim.{tt}
 use Rattle.exports_assessment.specs.Words.{vessel, contact, word_by}
 use Rattle.exports_assessment.proofs.avoidance_assess.Goals as goal
 

@@ -1,7 +1,5 @@
-use borrow.Author.Rules.{rules}
 use borrow.Author.Tests.{eq-eqb, ne_eqb}
 use mathlib.Core.Path.{ap, ◌∙◌}
-use Prim.{tt}
 use Rattle.risk.specs.Risk.{rank}
 use Rattle.words.specs.Words.{pattern}
 use Rattle.exports_assessment.specs.Words.{contact_word}

@@ -1,7 +1,5 @@
-use borrow.Author.Rules.{rules}
 use borrow.Author.Tests.{eq-eqb, ne_eqb}
 use mathlib.Core.Path.{refl}
-use Prim.{tt}
 use Rattle.exports_assessment.specs.Words.{cpa_word}
 use Rattle.exports_assessment.proofs.cpa_word.Goals as goal
 

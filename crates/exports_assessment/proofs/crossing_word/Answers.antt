@@ -1,6 +1,4 @@
-use borrow.Author.Rules.{rules}
 use mathlib.Core.Path.{sym, ap, ◌∙◌}
-use Prim.{tt}
 use Rattle.exports_assessment.specs.Words.{crossing_word}
 use Rattle.exports_assessment.proofs.crossing_word.Goals as goal
 

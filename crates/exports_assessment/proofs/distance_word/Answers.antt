@@ -1,6 +1,5 @@
 use borrow.Author.Tests.{eq-eqb, ne_eqb}
 use mathlib.Core.Path.{refl}
-use Prim.{tt}
 use Rattle.exports_assessment.specs.Words.{distance_word}
 use Rattle.exports_assessment.proofs.distance_word.Goals as goal
 

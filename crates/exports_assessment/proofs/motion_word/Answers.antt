@@ -1,6 +1,5 @@
 use borrow.Author.Tests.{eq-eqb, ne_eqb}
 use mathlib.Core.Path.{ap, ◌∙◌}
-use Prim.{tt}
 use Rattle.words.specs.Words.{pattern}
 use Rattle.exports_assessment.specs.Words.{motion_word}
 use Rattle.exports_assessment.proofs.motion_word.Goals as goal

@@ -1,6 +1,4 @@
-use borrow.Author.Rules.{rules}
 use mathlib.Core.Path.{sym, ap, ◌∙◌}
-use Prim.{tt}
 use Rattle.exports_assessment.specs.Words.{answer_word, verdict_word, word_by}
 use Rattle.exports_assessment.proofs.word_by.Goals as goal
 

@@ -1,5 +1,4 @@
 use mathlib.Core.Path.{refl}
-use borrow.Author.Rules.{rules}
 use Rattle.exports_avoidance.proofs.avoid_words.Goals as goal
 
 pub returns-in-Of : goal.returns-in-Of

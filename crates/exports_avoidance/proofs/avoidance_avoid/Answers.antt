@@ -1,7 +1,5 @@
 use mathlib.Core.Path.{refl}
-use borrow.Author.Rules.{rules}
 use Rattle.exports_avoidance.proofs.avoidance_avoid.Goals as goal
-use Rattle.exports_avoidance.proofs.avoidance_avoid.Lts as at
 
 pub returns-in-Of : goal.returns-in-Of
 returns-in-Of c = rw (c.word_at.ensures, c.avoid_words.ensures, c.avoid.ensures, c.vessel-in-Of.ensures, c.contact.ensures, c.vessel.ensures, ← c.constraints_of.ensures, c.in-Of.is) refl

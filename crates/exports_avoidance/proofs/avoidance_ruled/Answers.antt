@@ -2,9 +2,7 @@ use mathlib.Core.Path.{◌≡◌, refl, sym, ap, ◌∙◌}
 use lib.ListN.{get_or}
 use Rattle.exports_avoidance.specs.Words.{ruled_constraints, ruled_with}
 use Rattle.exports_avoidance.proofs.Made.{own_is, ruled_is}
-use borrow.Author.Rules.{rules}
 use Rattle.exports_avoidance.proofs.avoidance_ruled.Goals as goal
-use Rattle.exports_avoidance.proofs.avoidance_ruled.Lts as at
 
 -- the constraints that were made
 made : (c : goal.After-word_at) → ruled_constraints c.args.codes c.args.floats.now ≡ c.constraints_of.result

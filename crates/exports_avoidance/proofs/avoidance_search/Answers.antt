@@ -3,7 +3,6 @@ use Rattle.clearing.specs.Clearing.{floor_of}
 use Rattle.traffic.specs.Traffic.{targets}
 use Rattle.exports_avoidance.specs.Words.{search_of}
 use Rattle.exports_avoidance.proofs.avoidance_search.Goals as goal
-use Rattle.exports_avoidance.proofs.avoidance_search.Lts as at
 
 pub returns : goal.returns
 unfolding search_of floor_of targets

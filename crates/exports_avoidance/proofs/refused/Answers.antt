@@ -1,6 +1,5 @@
 use mathlib.Core.Path.{refl}
 use Rattle.exports_avoidance.specs.Words.{refused}
-use borrow.Author.Rules.{rules}
 use Rattle.exports_avoidance.proofs.refused.Goals as goal
 
 pub returns : goal.returns

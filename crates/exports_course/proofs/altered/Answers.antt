@@ -1,6 +1,5 @@
 use mathlib.Core.Path.{refl}
 use Rattle.exports_course.specs.Words.{altered}
-use borrow.Author.Rules.{rules}
 use Rattle.exports_course.proofs.altered.Goals as goal
 
 pub returns : goal.returns

@@ -1,6 +1,5 @@
 use mathlib.Core.Path.{sym, ap, ◌∙◌}
 use Rattle.exports_course.specs.Words.{course}
-use borrow.Author.Rules.{rules}
 use Rattle.exports_course.proofs.course.Goals as goal
 
 pub returns-in-To : goal.returns-in-To

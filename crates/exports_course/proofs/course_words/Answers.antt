@@ -1,6 +1,5 @@
 use mathlib.Core.Path.{sym, ap, ◌∙◌}
 use Rattle.exports_course.specs.Words.{course_words}
-use borrow.Author.Rules.{rules}
 use Rattle.exports_course.proofs.course_words.Goals as goal
 
 pub returns-in-Of : goal.returns-in-Of

@@ -1,5 +1,4 @@
 use mathlib.Core.Path.{refl}
-use borrow.Author.Rules.{rules}
 use Rattle.exports_course.proofs.motion_course.Goals as goal
 
 pub returns : goal.returns

@@ -1,6 +1,5 @@
 use mathlib.Core.Path.{sym, ap, ◌∙◌}
 use Rattle.exports_course.specs.Words.{plot_words}
-use borrow.Author.Rules.{rules}
 use Rattle.exports_course.proofs.plot_words.Goals as goal
 
 pub returns-in-Of : goal.returns-in-Of

@@ -2,7 +2,6 @@ use mathlib.Core.Path.{sym, subst}
 use lib.Dec.{T}
 use Rattle.arcsine.specs.Asin.{IsAsin}
 use Rattle.arcsine.proofs.Arcsines.{arcsine_is}
-use borrow.Author.Rules.{rules}
 use Rattle.exports_elementary.proofs.elementary_asin.Goals as goal
 
 pub returns : goal.returns

@@ -2,7 +2,6 @@ use mathlib.Core.Path.{sym, subst}
 use lib.Dec.{T}
 use Rattle.inverse.specs.Atan2.{IsAtan2}
 use Rattle.inverse.proofs.Arctangents.{arctangent_is}
-use borrow.Author.Rules.{rules}
 use Rattle.exports_elementary.proofs.elementary_atan2.Goals as goal
 
 pub returns : goal.returns

@@ -2,7 +2,6 @@ use mathlib.Core.Path.{sym, subst}
 use lib.Dec.{T}
 use Rattle.root.specs.Hypot.{IsHypot}
 use Rattle.root.proofs.HypotBound.{hypot_is}
-use borrow.Author.Rules.{rules}
 use Rattle.exports_elementary.proofs.elementary_hypot.Goals as goal
 
 pub returns : goal.returns

@@ -2,7 +2,6 @@ use mathlib.Core.Path.{sym, subst}
 use lib.Dec.{T}
 use Rattle.circular.specs.Sine.{IsSine}
 use Rattle.circular.proofs.Bound.{sine_is}
-use borrow.Author.Rules.{rules}
 use Rattle.exports_elementary.proofs.elementary_sin.Goals as goal
 
 pub returns : goal.returns

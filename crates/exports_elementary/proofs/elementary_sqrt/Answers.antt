@@ -2,7 +2,6 @@ use mathlib.Core.Path.{sym, subst}
 use lib.Dec.{T}
 use Rattle.root.specs.Sqrt.{IsSqrt}
 use Rattle.root.proofs.NearestSqrt.{sqrt_is}
-use borrow.Author.Rules.{rules}
 use Rattle.exports_elementary.proofs.elementary_sqrt.Goals as goal
 
 pub returns : goal.returns

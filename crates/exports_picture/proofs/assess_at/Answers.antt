@@ -1,8 +1,6 @@
 use mathlib.Core.Path.{refl}
 use Rattle.exports_picture.specs.Words.{assess_at}
-use borrow.Author.Rules.{rules}
 use Rattle.exports_picture.proofs.assess_at.Goals as goal
-use Rattle.exports_picture.proofs.assess_at.Lts as at
 
 pub returns : goal.returns
 unfolding assess_at

@@ -1,8 +1,6 @@
 use mathlib.Core.Path.{refl}
 use Rattle.exports_picture.specs.Words.{picture_word}
-use borrow.Author.Rules.{rules}
 use Rattle.exports_picture.proofs.avoidance_picture.Goals as goal
-use Rattle.exports_picture.proofs.avoidance_picture.Lts as at
 
 pub returns-in-Of : goal.returns-in-Of
 unfolding picture_word

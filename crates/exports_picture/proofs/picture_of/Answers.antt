@@ -1,12 +1,10 @@
-use Prim.Native.Nat.{ℕ, ◌+◌, ◌-◌, ◌≤◌, ◌<◌, min}
-use mathlib.Core.Path.{◌≡◌, refl, ◌∙◌, ap}
+use Prim.Native.Nat.{◌-◌}
+use mathlib.Core.Path.{refl, ◌∙◌, ap}
 use mathlib.Core.List.{[], ◌∷◌}
 use native.Mathlib.Omega.{arith}
-use Rattle.picture.specs.Picture.{targets}
 use Rattle.exports_picture.specs.Words.{after}
 use Rattle.exports_picture.proofs.Making.{step, made}
 use Rattle.exports_picture.proofs.picture_of.Goals as goal
-use Rattle.exports_picture.proofs.picture_of.Lts as at
 
 pub loop-i-init : goal.loop-i-init
 unfolding after

@@ -1,10 +1,7 @@
-use Prim.Native.Nat.{ℕ, ◌+◌, ◌-◌, ◌≤◌, ◌<◌, min}
-use mathlib.Core.Path.{◌≡◌, refl, ◌∙◌, ap}
-use mathlib.Core.List.{[], ◌∷◌}
-use native.Mathlib.Omega.{arith}
+use Prim.Native.Nat.{◌-◌, ◌≤◌}
+use mathlib.Core.Path.{◌≡◌}
 use Rattle.picture.specs.Picture.{targets}
 use Rattle.exports_picture.specs.Words.{after}
-use Rattle.exports_picture.proofs.Making.{step, made}
 use Rattle.exports_picture.proofs.picture_of.Given as goal
 
 abbrev pub invariant-loop-i : goal.invariant-loop-i

@@ -1,5 +1,4 @@
 use mathlib.Core.Path.{refl}
-use borrow.Author.Rules.{rules}
 use Rattle.exports_picture.proofs.word_by.Goals as goal
 
 pub returns-in-Of : goal.returns-in-Of

@@ -1,7 +1,6 @@
 use borrow.Author.Tests.{eq-eqb, ne_eqb, lt-ltb, le-ltb}
 use mathlib.Core.Path.{refl}
 use Rattle.exports_picture.specs.Words.{word_of}
-use borrow.Author.Rules.{rules}
 use Rattle.exports_picture.proofs.word_of.Goals as goal
 
 pub returns-then-part-eq0 : goal.returns-then-part-eq0

@@ -1,9 +1,7 @@
-use Prim.Native.Nat.{ℕ, ◌+◌, ◌-◌, ◌≤◌, ◌<◌}
-use mathlib.Core.Path.{◌≡◌, refl}
+use Prim.Native.Nat.{◌-◌}
+use mathlib.Core.Path.{refl}
 use native.Mathlib.Omega.{arith}
-use borrow.Author.Rules.{rules}
-use lib.ListN.{length}
-use Rattle.exports_report.proofs.Copying.{Copied, one_more, finished}
+use Rattle.exports_report.proofs.Copying.{one_more, finished}
 use Rattle.exports_report.proofs.copy.Goals as goal
 
 pub loop-i-init : goal.loop-i-init

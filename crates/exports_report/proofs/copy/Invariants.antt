@@ -1,9 +1,6 @@
-use Prim.Native.Nat.{ℕ, ◌+◌, ◌-◌, ◌≤◌, ◌<◌}
-use mathlib.Core.Path.{◌≡◌, refl}
-use native.Mathlib.Omega.{arith}
-use borrow.Author.Rules.{rules}
+use Prim.Native.Nat.{◌-◌}
 use lib.ListN.{length}
-use Rattle.exports_report.proofs.Copying.{Copied, one_more, finished}
+use Rattle.exports_report.proofs.Copying.{Copied}
 use Rattle.exports_report.proofs.copy.Given as goal
 
 abbrev pub invariant-loop-i : goal.invariant-loop-i

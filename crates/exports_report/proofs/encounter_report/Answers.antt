@@ -1,9 +1,7 @@
-use Prim.Native.Nat.{◌≤◌, ◌<◌, min}
-use mathlib.Core.Path.{◌≡◌, refl, sym, ap, ◌∙◌}
+use mathlib.Core.Path.{ap, ◌∙◌}
 use native.Mathlib.Omega.{arith}
 use lib.ListN.{length, length-take}
 use Rattle.exports_report.proofs.Copying.{no_room, with_room}
-use borrow.Author.Rules.{rules}
 use Rattle.exports_report.proofs.encounter_report.Goals as goal
 
 pub returns-then-n-out : goal.returns-then-n-out

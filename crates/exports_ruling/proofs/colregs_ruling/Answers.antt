@@ -1,6 +1,5 @@
 use mathlib.Core.Path.{refl}
 use Rattle.exports_ruling.specs.Words.{config}
-use borrow.Author.Rules.{rules}
 use Rattle.exports_ruling.proofs.colregs_ruling.Goals as goal
 
 pub returns : goal.returns

@@ -1,6 +1,5 @@
 use mathlib.Core.Path.{ap, ◌∙◌}
 use Rattle.exports_time.specs.Time.{secs_of}
-use borrow.Author.Rules.{rules}
 use Rattle.exports_time.proofs.port_hours_secs.Goals as goal
 
 pub returns : goal.returns

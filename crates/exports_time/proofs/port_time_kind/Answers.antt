@@ -1,6 +1,5 @@
 use mathlib.Core.Path.{ap, ◌∙◌}
 use Rattle.exports_time.specs.Time.{kind_of}
-use borrow.Author.Rules.{rules}
 use Rattle.exports_time.proofs.port_time_kind.Goals as goal
 
 pub returns : goal.returns

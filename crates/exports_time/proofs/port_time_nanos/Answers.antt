@@ -1,6 +1,5 @@
 use mathlib.Core.Path.{ap, ◌∙◌}
 use Rattle.exports_time.specs.Time.{nanos_of}
-use borrow.Author.Rules.{rules}
 use Rattle.exports_time.proofs.port_time_nanos.Goals as goal
 
 pub returns : goal.returns

@@ -1,6 +1,5 @@
 use mathlib.Core.Path.{refl}
 use Rattle.facts.specs.Facts.{aspect_of}
-use borrow.Author.Rules.{rules}
 use Rattle.facts.proofs.aspect_of.Goals as goal
 
 pub returns : goal.returns

@@ -1,5 +1,4 @@
 use Rattle.facts.proofs.Gathered.{facts_are}
-use borrow.Author.Rules.{rules}
 use Rattle.facts.proofs.facts_of.Goals as goal
 
 pub returns : goal.returns

@@ -1,6 +1,4 @@
 use Rattle.facts.proofs.Gathered.{closing_unless, not-closing}
-use Rattle.facts.specs.Facts.{is_closing}
-use borrow.Author.Rules.{rules}
 use Rattle.facts.proofs.is_closing.Goals as goal
 
 pub returns-then-rate : goal.returns-then-rate

@@ -1,6 +1,5 @@
 use mathlib.Core.Path.{refl}
 use Rattle.facts.specs.Facts.{relative_of}
-use borrow.Author.Rules.{rules}
 use Rattle.facts.proofs.relative_of.Goals as goal
 
 pub returns : goal.returns

@@ -1,6 +1,5 @@
 use mathlib.Core.Path.{refl}
 use Rattle.facts.specs.Facts.{speed_of}
-use borrow.Author.Rules.{rules}
 use Rattle.facts.proofs.speed_of.Goals as goal
 
 pub returns : goal.returns

@@ -1,5 +1,4 @@
 use Rattle.facts.proofs.Gathered.{own_to_windward, target_to_windward}
-use borrow.Author.Rules.{rules}
 use Rattle.facts.proofs.windward_of.Goals as goal
 
 pub returns-then-abs : goal.returns-then-abs

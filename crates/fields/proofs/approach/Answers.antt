@@ -1,5 +1,4 @@
 use Rattle.text.specs.Text.{bytes}
-use borrow.Author.Rules.{rules}
 use Rattle.fields.proofs.approach.Goals as goal
 
 pub returns-in-Closing : goal.returns-in-Closing

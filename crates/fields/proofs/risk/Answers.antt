@@ -1,5 +1,4 @@
 use Rattle.text.specs.Text.{bytes}
-use borrow.Author.Rules.{rules}
 use Rattle.fields.proofs.risk.Goals as goal
 
 pub returns-in-Opening : goal.returns-in-Opening

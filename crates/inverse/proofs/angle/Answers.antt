@@ -7,7 +7,6 @@ use Prim.Native.Nat.{◌*◌}
 use lib.Dec.{T, ltb→lt, nltb→le, lit<}
 use mathlib.Core.Bool.{true, false, not, cond}
 use mathlib.Core.Path.{sym, ap, ◌∙◌, subst}
-use borrow.Author.Rules.{rules}
 use Rattle.inverse.proofs.angle.Goals as goal
 
 pub returns-then-left : goal.returns-then-left

@@ -1,7 +1,6 @@
 use Rattle.inverse.proofs.Arctangents.{size_of, answer_finite, answer_no_x, answer_no_y}
 use Rattle.laws.proofs.Exact.{zero_by_zero}
 use mathlib.Core.Path.{◌∙◌}
-use borrow.Author.Rules.{rules}
 use Rattle.inverse.proofs.atan2.Goals as goal
 
 pub angle-t-requires : goal.angle-t-requires

@@ -1,6 +1,5 @@
 use Rattle.inverse.proofs.Arctangents.{all_cut}
 use native.Mathlib.Omega.{arith}
-use borrow.Author.Rules.{rules}
 use Rattle.inverse.proofs.cut.Goals as goal
 
 pub returns : goal.returns

@@ -4,7 +4,6 @@ use Rattle.laws.specs.Units.{units_of}
 use Rattle.inverse.proofs.Octants.{leading, lower_place, octant_is}
 use native.Mathlib.Omega.{arith}
 use mathlib.Core.Path.{sym, subst}
-use borrow.Author.Rules.{rules}
 use Rattle.inverse.proofs.normal_octant.Goals as goal
 
 pub overflow_sub-p : goal.overflow_sub-p

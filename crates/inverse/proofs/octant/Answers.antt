@@ -9,7 +9,6 @@ use Rattle.inverse.proofs.Octants.{octant-raised}
 use Rattle.inverse.proofs.Arctangents.{raised, is_subnormal, is_normal, enough}
 use lib.Dec.{T}
 use mathlib.Core.Path.{sym, ap, ◌∙◌, subst, subst₂}
-use borrow.Author.Rules.{rules}
 use Rattle.inverse.proofs.octant.Goals as goal
 
 pub normal_octant-requires : goal.normal_octant-requires

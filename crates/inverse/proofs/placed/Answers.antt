@@ -1,7 +1,6 @@
 use Rattle.grid.specs.Arctangent.{placed}
 use native.Mathlib.Omega.{arith}
 use mathlib.Core.Path.{refl}
-use borrow.Author.Rules.{rules}
 use Rattle.inverse.proofs.placed.Goals as goal
 
 pub returns-then-left : goal.returns-then-left

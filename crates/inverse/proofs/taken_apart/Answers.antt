@@ -1,7 +1,6 @@
 use Rattle.inverse.proofs.Arctangents.{not-nan, subnormal, normal}
 use lib.Dec.{T}
 use mathlib.Core.Path.{sym, subst}
-use borrow.Author.Rules.{rules}
 use Rattle.inverse.proofs.taken_apart.Goals as goal
 
 pub float_to_bits-pattern : goal.float_to_bits-pattern

@@ -1,7 +1,6 @@
 use Rattle.text.specs.Text.{bytes}
 use Rattle.text.proofs.Appending.{then}
 use Rattle.lines.specs.Lines.{contact_line}
-use borrow.Author.Rules.{rules}
 use Rattle.lines.proofs.contact_line.Goals as goal
 
 pub returns : goal.returns

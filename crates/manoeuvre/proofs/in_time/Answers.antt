@@ -1,6 +1,5 @@
 use mathlib.Core.Path.{sym, ap}
 use Rattle.manoeuvre.specs.Manoeuvre.{in_time}
-use borrow.Author.Rules.{rules}
 use Rattle.manoeuvre.proofs.in_time.Goals as goal
 
 pub returns-in-Of : goal.returns-in-Of

@@ -1,6 +1,5 @@
 use mathlib.Core.Path.{sym, ap, ◌∙◌}
 use Rattle.manoeuvre.specs.Manoeuvre.{turn_time}
-use borrow.Author.Rules.{rules}
 use Rattle.manoeuvre.proofs.turn_time.Goals as goal
 
 pub returns-in-Of : goal.returns-in-Of

@@ -1,6 +1,5 @@
 use mathlib.Core.Path.{ap, ◌∙◌}
 use Rattle.manoeuvre.specs.Manoeuvre.{in_time, turned}
-use borrow.Author.Rules.{rules}
 use Rattle.manoeuvre.proofs.turned.Goals as goal
 
 pub returns : goal.returns

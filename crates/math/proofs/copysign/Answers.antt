@@ -1,4 +1,4 @@
-use Rattle.std.proofs.Common.{sym, ap, ◌∙◌, rules}
+use Rattle.std.proofs.Common.{sym, ap, ◌∙◌}
 use lib.Ieee.{neg}
 use Rattle.math.proofs.Sign.{copysign-set, copysign_clear}
 use Rattle.math.proofs.copysign.Goals as goal

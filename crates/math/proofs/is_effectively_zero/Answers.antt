@@ -1,4 +1,4 @@
-use Rattle.std.proofs.Common.{refl, rules}
+use Rattle.std.proofs.Common.{refl}
 use Rattle.math.specs.Test.{is_effectively_zero}
 use Rattle.math.proofs.is_effectively_zero.Goals as goal
 

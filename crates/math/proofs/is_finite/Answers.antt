@@ -1,6 +1,6 @@
 use Rattle.math.proofs.Sign.{below_infinite}
 use lib.Ieee.{binary64, div, lt, of_bits}
-use Rattle.std.proofs.Common.{ap, ◌∙◌, rules}
+use Rattle.std.proofs.Common.{ap, ◌∙◌}
 use Rattle.math.proofs.is_finite.Goals as goal
 
 pub returns : goal.returns

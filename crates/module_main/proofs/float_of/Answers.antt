@@ -1,5 +1,4 @@
 use Rattle.laws.proofs.Pattern.{no_nan_size}
-use borrow.Author.Rules.{rules}
 use Rattle.module_main.proofs.float_of.Goals as goal
 
 pub float_from_bits-result : goal.float_from_bits-result

@@ -1,6 +1,5 @@
 use mathlib.Core.Path.{sym, ap, ◌∙◌}
 use Rattle.motion_words.specs.Words.{approach_words}
-use borrow.Author.Rules.{rules}
 use Rattle.motion_words.proofs.approach_words.Goals as goal
 
 pub returns-in-Closing : goal.returns-in-Closing

@@ -1,6 +1,5 @@
 use mathlib.Core.Path.{sym, ap, ◌∙◌}
 use Rattle.motion_words.specs.Words.{bearing_words}
-use borrow.Author.Rules.{rules}
 use Rattle.motion_words.proofs.bearing_words.Goals as goal
 
 pub returns-in-Of : goal.returns-in-Of

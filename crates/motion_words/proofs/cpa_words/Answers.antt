@@ -1,6 +1,5 @@
 use mathlib.Core.Path.{sym, ap, ◌∙◌}
 use Rattle.motion_words.specs.Words.{cpa_words}
-use borrow.Author.Rules.{rules}
 use Rattle.motion_words.proofs.cpa_words.Goals as goal
 
 pub returns-in-Refused : goal.returns-in-Refused

@@ -1,6 +1,5 @@
 use mathlib.Core.Path.{refl}
 use Rattle.motion_words.specs.Words.{passed}
-use borrow.Author.Rules.{rules}
 use Rattle.motion_words.proofs.passed.Goals as goal
 
 pub returns : goal.returns

@@ -1,6 +1,5 @@
 use mathlib.Core.Path.{sym, ap, ◌∙◌}
 use Rattle.motion_words.specs.Words.{passing_words}
-use borrow.Author.Rules.{rules}
 use Rattle.motion_words.proofs.passing_words.Goals as goal
 
 pub returns-in-Refused : goal.returns-in-Refused

@@ -1,6 +1,5 @@
 use Rattle.text.specs.Text.{bytes}
 use Rattle.text.proofs.Appending.{then}
-use borrow.Author.Rules.{rules}
 use Rattle.number_fields.proofs.quantity.Goals as goal
 
 pub returns : goal.returns

@@ -1,6 +1,5 @@
 use mathlib.Core.Path.{refl}
 use Rattle.passages.specs.Passages.{moving}
-use borrow.Author.Rules.{rules}
 use Rattle.passages.proofs.moving_of.Goals as goal
 
 pub returns : goal.returns

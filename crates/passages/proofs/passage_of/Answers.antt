@@ -1,5 +1,4 @@
 use Rattle.passages.proofs.Steps.{passes_at_range, passes}
-use borrow.Author.Rules.{rules}
 use Rattle.passages.proofs.passage_of.Goals as goal
 
 pub returns-then-rate : goal.returns-then-rate

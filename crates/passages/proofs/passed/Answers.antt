@@ -1,5 +1,4 @@
 use Rattle.passages.proofs.Steps.{blocked, closes, opens, stays}
-use borrow.Author.Rules.{rules}
 use Rattle.passages.proofs.passed.Goals as goal
 
 pub returns-then-d-floor : goal.returns-then-d-floor

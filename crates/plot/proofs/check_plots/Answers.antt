@@ -1,7 +1,6 @@
 use mathlib.Core.Path.{refl}
 use Rattle.plot.specs.Plot.{plot_verdict, plot_checks}
 use Rattle.arguments.specs.Check.{verdict}
-use borrow.Author.Rules.{rules}
 use Rattle.plot.proofs.check_plots.Goals as goal
 
 pub returns : goal.returns

@@ -1,6 +1,5 @@
 use mathlib.Core.Path.{refl}
 use Rattle.plot.specs.Plot.{relative_motion}
-use borrow.Author.Rules.{rules}
 use Rattle.plot.proofs.relative_motion.Goals as goal
 
 pub returns : goal.returns

@@ -1,6 +1,5 @@
 use mathlib.Core.Path.{refl}
 use Rattle.plot.specs.Plot.{solution}
-use borrow.Author.Rules.{rules}
 use Rattle.plot.proofs.solution.Goals as goal
 
 pub returns : goal.returns

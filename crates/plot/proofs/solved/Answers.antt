@@ -1,5 +1,4 @@
 use Rattle.plot.proofs.Plotted.{no_interval, some_interval}
-use borrow.Author.Rules.{rules}
 use Rattle.plot.proofs.solved.Goals as goal
 
 pub returns-then-interval : goal.returns-then-interval

@@ -1,5 +1,4 @@
 use Rattle.plot.proofs.Plotted.{plotted, plot_refused}
-use borrow.Author.Rules.{rules}
 use Rattle.plot.proofs.target_from_plot.Goals as goal
 
 pub returns-in-Accepted : goal.returns-in-Accepted

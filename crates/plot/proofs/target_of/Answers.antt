@@ -1,6 +1,5 @@
 use mathlib.Core.Path.{refl}
 use Rattle.plot.specs.Plot.{target_of}
-use borrow.Author.Rules.{rules}
 use Rattle.plot.proofs.target_of.Goals as goal
 
 pub returns : goal.returns

@@ -1,12 +1,11 @@
 use Prim.Native.Nat.{◌≤◌}
 use native.Mathlib.Omega.{arith}
-use mathlib.Core.Path.{◌≡◌, refl}
-use lib.ListN.{length, length-map, length-take}
+use mathlib.Core.Path.{◌≡◌}
+use lib.ListN.{length, length-take}
 use Rattle.room.specs.Room.{max_contacts}
 use Rattle.sheet_record.specs.Record.{rows}
 use Rattle.report.specs.Report.{lines_on}
 use Rattle.report.proofs.Whole.{both, alone}
-use borrow.Author.Rules.{rules}
 use Rattle.report.proofs.lines_on.Goals as goal
 
 pub answer_on-requires : goal.answer_on-requires

@@ -1,7 +1,5 @@
 use mathlib.Core.Path.{refl}
-use borrow.Author.Rules.{rules}
 use Rattle.report.proofs.put_answer.Goals as goal
-use Rattle.report.proofs.put_answer.Lts as at
 
 pub returns-in-Of : goal.returns-in-Of
 returns-in-Of c = rw (c.alter_line.ensures, c.id_at.ensures, c.in-Of.is) refl

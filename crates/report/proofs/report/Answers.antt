@@ -1,8 +1,7 @@
-use mathlib.Core.Path.{◌≡◌, refl, sym, ap, ◌∙◌}
+use mathlib.Core.Path.{refl, sym, ap, ◌∙◌}
 use lib.ListN.{length}
 use Rattle.report.specs.Report.{report}
 use Rattle.report.proofs.Whole.{alone}
-use borrow.Author.Rules.{rules}
 use Rattle.report.proofs.report.Goals as goal
 
 pub lines_on-requires : goal.lines_on-requires

@@ -1,6 +1,5 @@
 use mathlib.Core.Path.{sym, ap}
 use Rattle.risk.specs.Risk.{ahead_of}
-use borrow.Author.Rules.{rules}
 use Rattle.risk.proofs.ahead_of.Goals as goal
 
 pub returns-in-Of : goal.returns-in-Of

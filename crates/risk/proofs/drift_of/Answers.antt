@@ -1,5 +1,4 @@
 use Rattle.risk.proofs.Owed.{drifts, drifts_not}
-use borrow.Author.Rules.{rules}
 use Rattle.risk.proofs.drift_of.Goals as goal
 
 pub returns-then-is_finite : goal.returns-then-is_finite

@@ -1,6 +1,5 @@
 use mathlib.Core.Path.{sym, ap}
 use Rattle.risk.specs.Risk.{nearest}
-use borrow.Author.Rules.{rules}
 use Rattle.risk.proofs.nearest.Goals as goal
 
 pub returns-in-Closing : goal.returns-in-Closing

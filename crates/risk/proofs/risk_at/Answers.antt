@@ -1,5 +1,4 @@
 use Rattle.risk.proofs.Owed.{passes, develops, endangers}
-use borrow.Author.Rules.{rules}
 use Rattle.risk.proofs.risk_at.Goals as goal
 
 pub returns-then-distance-limit : goal.returns-then-distance-limit

@@ -1,6 +1,5 @@
 use native.Mathlib.Omega.{arith}
 use Rattle.root.proofs.SqrtCode.{squares, excess_is, nothing}
-use borrow.Author.Rules.{rules}
 use Rattle.root.proofs.excess.Goals as goal
 
 pub overflow_mul-cross-2 : goal.overflow_mul-cross-2

@@ -1,6 +1,5 @@
 use native.Mathlib.Omega.{arith}
 use Rattle.laws.proofs.Pattern.{no_nan_bits, no_nan_of_eq}
-use borrow.Author.Rules.{rules}
 use Rattle.root.proofs.guess.Goals as goal
 
 pub float_from_bits-f : goal.float_from_bits-f

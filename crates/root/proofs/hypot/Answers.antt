@@ -1,6 +1,5 @@
 use Rattle.laws.proofs.Exact.{zero_by_zero}
 use Rattle.root.proofs.HypotCode.{second_larger, first-larger, outside}
-use borrow.Author.Rules.{rules}
 use Rattle.root.proofs.hypot.Goals as goal
 
 pub returns-then-a-b : goal.returns-then-a-b

@@ -1,5 +1,4 @@
 use Rattle.root.proofs.HypotCode.{with_zero, both_small, by_squares}
-use borrow.Author.Rules.{rules}
 use Rattle.root.proofs.hypot_ordered.Goals as goal
 
 pub returns-then-v : goal.returns-then-v

@@ -1,7 +1,5 @@
-use mathlib.Core.Path.{◌≡◌, refl}
-use Prim.Native.Nat.{ℕ, ◌+◌, ◌*◌, ◌-◌, ◌^◌, ◌≤◌, ◌<◌}
+use mathlib.Core.Path.{refl}
 use native.Mathlib.Omega.{arith}
-use Rattle.root.specs.Digits.{Remainder}
 use Rattle.root.proofs.OneDigitMore.{limit_doubled, again_yes, again_no, at_start, at_end, is_root}
 use Rattle.root.proofs.more_digits.Goals as goal
 

@@ -1,8 +1,6 @@
-use mathlib.Core.Path.{◌≡◌, refl}
-use Prim.Native.Nat.{ℕ, ◌+◌, ◌*◌, ◌-◌, ◌^◌, ◌≤◌, ◌<◌}
-use native.Mathlib.Omega.{arith}
+use mathlib.Core.Path.{◌≡◌}
+use Prim.Native.Nat.{◌*◌, ◌-◌, ◌^◌, ◌≤◌, ◌<◌}
 use Rattle.root.specs.Digits.{Remainder}
-use Rattle.root.proofs.OneDigitMore.{limit_doubled, again_yes, again_no, at_start, at_end, is_root}
 use Rattle.root.proofs.more_digits.Given as goal
 
 -- Each turn makes the number four times as large and its root one digit longer; `limit` is the power of two that the root stays below.

@@ -1,7 +1,6 @@
 use Prim.Native.Nat.{◌+◌, ◌*◌, ◌^◌, ◌<◌}
 use native.Mathlib.Omega.{arith}
 use Rattle.root.proofs.SqrtCode.{doubled, itself}
-use borrow.Author.Rules.{rules}
 use Rattle.root.proofs.nearest_root.Goals as goal
 
 digit_count : (c : goal.Start) → (0 < c.args.m * (1 + c.args.odd)) × (c.args.m * (1 + c.args.odd) < 2 ^ 54)

@@ -1,8 +1,5 @@
-use mathlib.Core.Path.{◌≡◌, sym}
-use Prim.Native.Nat.{ℕ, ◌+◌, ◌*◌, ◌-◌, ◌^◌, ◌≤◌, ◌<◌}
-use native.Mathlib.Nat.{mul-one}
-use native.Mathlib.Omega.{arith}
-use Rattle.root.proofs.SqrtCode.{one_place_more, few-places}
+use mathlib.Core.Path.{◌≡◌}
+use Prim.Native.Nat.{◌*◌, ◌-◌, ◌^◌, ◌≤◌, ◌<◌}
 use Rattle.root.proofs.normalise.Given as goal
 
 abbrev pub invariant-loop-m : goal.invariant-loop-m

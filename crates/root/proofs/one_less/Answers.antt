@@ -1,7 +1,6 @@
 use Prim.Native.Nat.{◌*◌, ◌^◌}
 use native.Mathlib.Omega.{arith}
 use Rattle.root.proofs.SqrtCode.{before}
-use borrow.Author.Rules.{rules}
 use Rattle.root.proofs.one_less.Goals as goal
 
 pub returns-then-x-r : goal.returns-then-x-r

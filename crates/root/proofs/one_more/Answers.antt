@@ -1,6 +1,5 @@
 use Prim.Native.Nat.{◌*◌, ◌^◌}
 use Rattle.root.proofs.SqrtCode.{after}
-use borrow.Author.Rules.{rules}
 use Rattle.root.proofs.one_more.Goals as goal
 
 pub returns-then-x-r-ge-MIDDLE : goal.returns-then-x-r-ge-MIDDLE

@@ -1,6 +1,5 @@
 use native.Mathlib.Omega.{arith}
 use Rattle.root.proofs.SqrtCode.{root_few, remainder, long_root_few, nearest_of_long}
-use borrow.Author.Rules.{rules}
 use Rattle.root.proofs.root_by_digits.Goals as goal
 
 pub more_digits-r-requires : goal.more_digits-r-requires

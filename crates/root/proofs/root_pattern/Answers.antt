@@ -1,6 +1,5 @@
 use native.Mathlib.Omega.{arith}
 use Rattle.root.proofs.SqrtCode.{pattern_is}
-use borrow.Author.Rules.{rules}
 use Rattle.root.proofs.root_pattern.Goals as goal
 
 pub overflow_add-result : goal.overflow_add-result

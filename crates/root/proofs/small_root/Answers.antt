@@ -1,5 +1,5 @@
 use mathlib.Core.Path.{◌≡◌, refl, subst}
-use Prim.Native.Nat.{ℕ, ◌+◌, ◌*◌, ◌/◌, ◌^◌, ◌≤◌, ◌<◌}
+use Prim.Native.Nat.{ℕ, ◌+◌, ◌*◌, ◌/◌, ◌<◌}
 use native.Mathlib.Omega.{arith}
 use Rattle.root.proofs.SqrtCode.{step_halved, square-small, root_at_end}
 use Rattle.root.proofs.small_root.Goals as goal

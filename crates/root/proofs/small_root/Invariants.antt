@@ -1,7 +1,5 @@
-use mathlib.Core.Path.{◌≡◌, refl, subst}
-use Prim.Native.Nat.{ℕ, ◌+◌, ◌*◌, ◌/◌, ◌^◌, ◌≤◌, ◌<◌}
-use native.Mathlib.Omega.{arith}
-use Rattle.root.proofs.SqrtCode.{step_halved, square-small, root_at_end}
+use mathlib.Core.Path.{◌≡◌}
+use Prim.Native.Nat.{◌+◌, ◌*◌, ◌^◌, ◌≤◌, ◌<◌}
 use Rattle.root.proofs.small_root.Given as goal
 
 abbrev pub invariant-loop-left : goal.invariant-loop-left

@@ -4,7 +4,6 @@ use lib.Dec.{T}
 use lib.Ieee.{of_bits}
 use Rattle.laws.proofs.Pattern.{no_nan_above, no_nan_bits}
 use Rattle.root.proofs.SqrtCode.{infinite_root, field_le, subnormal_digits, subnormal_root, normal_root, zero_root, no_root}
-use borrow.Author.Rules.{rules}
 use Rattle.root.proofs.sqrt.Goals as goal
 
 pub float_to_bits-pattern : goal.float_to_bits-pattern

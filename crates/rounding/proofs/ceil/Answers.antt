@@ -1,4 +1,4 @@
-use Rattle.std.proofs.Common.{T, sym, subst, rules}
+use Rattle.std.proofs.Common.{T, sym, subst}
 use lib.Ieee.{of_bits}
 use Rattle.rounding.proofs.Whole.{ceil_up, ceil_same}
 use Rattle.rounding.proofs.ceil.Goals as goal

@@ -1,4 +1,4 @@
-use Rattle.std.proofs.Common.{ap, rules}
+use Rattle.std.proofs.Common.{ap}
 use lib.Ieee.{eq}
 use Rattle.rounding.specs.Whole.{is_integral}
 use Rattle.rounding.proofs.is_integral.Goals as goal

@@ -1,4 +1,4 @@
-use Rattle.std.proofs.Common.{T, sym, subst, arith, rules}
+use Rattle.std.proofs.Common.{T, sym, subst, arith}
 use lib.Ieee.{of_bits}
 use Rattle.rounding.proofs.Whole.{round_asks, round-few, round_holds, round_is, round_stays}
 use Rattle.rounding.proofs.round.Goals as goal

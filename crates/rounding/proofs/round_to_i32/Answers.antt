@@ -1,6 +1,5 @@
 use lib.Ieee.{of_bits, neg}
 use Rattle.rounding.proofs.Cast.{i32_over, i32_under, i32_castable, i32_fits, i32_in, i32_nan}
-use Rattle.std.proofs.Common.{rules}
 use Rattle.rounding.proofs.round_to_i32.Goals as goal
 
 pub returns-then-rounded : goal.returns-then-rounded

@@ -1,4 +1,4 @@
-use Rattle.std.proofs.Common.{T, sym, subst, rules}
+use Rattle.std.proofs.Common.{T, sym, subst}
 use lib.Ieee.{of_bits}
 use Rattle.rounding.proofs.Whole.{trunc_asks, trunc_holds, trunc_is, trunc_stays}
 use Rattle.rounding.proofs.trunc.Goals as goal

@@ -1,4 +1,3 @@
-use borrow.Author.Rules.{rules}
 use Rattle.ruled.proofs.Steps.{no_trial, a_trial}
 use Rattle.ruled.proofs.chosen_answer.Goals as goal
 

@@ -1,4 +1,3 @@
-use borrow.Author.Rules.{rules}
 use Rattle.traffic.specs.Traffic.{contacts}
 use Rattle.ruled_laws.specs.Held.{HeldArguments}
 use Rattle.ruled.proofs.Held.{is_held, entries-held}

@@ -1,6 +1,5 @@
 use Rattle.colregs.specs.Colregs.{forward_of_beam}
 use mathlib.Core.Path.{refl}
-use borrow.Author.Rules.{rules}
 use Rattle.ruling.proofs.forward_of_beam.Goals as goal
 
 pub returns : goal.returns

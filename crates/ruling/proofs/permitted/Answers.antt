@@ -1,6 +1,5 @@
 use Rattle.colregs.specs.Colregs.{permitted}
 use mathlib.Core.Path.{refl}
-use borrow.Author.Rules.{rules}
 use Rattle.ruling.proofs.permitted.Goals as goal
 
 pub returns : goal.returns

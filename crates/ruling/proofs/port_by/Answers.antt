@@ -1,4 +1,3 @@
-use borrow.Author.Rules.{rules}
 use Rattle.ruling.proofs.port_by.Goals as goal
 
 pub returns-in-Rule12 : goal.returns-in-Rule12

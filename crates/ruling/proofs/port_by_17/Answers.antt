@@ -1,6 +1,5 @@
 use Rattle.colregs.specs.Colregs.{port_by17}
 use mathlib.Core.Path.{refl, sym}
-use borrow.Author.Rules.{rules}
 use Rattle.ruling.proofs.port_by_17.Goals as goal
 
 pub returns-then-is_stand_on : goal.returns-then-is_stand_on

@@ -1,6 +1,5 @@
 use Rattle.colregs.specs.Colregs.{port_by19}
 use mathlib.Core.Path.{refl, sym}
-use borrow.Author.Rules.{rules}
 use Rattle.ruling.proofs.port_by_19.Goals as goal
 
 pub returns-then-forward_of_beam : goal.returns-then-forward_of_beam

@@ -1,5 +1,4 @@
 use Rattle.ruling.proofs.Ruled.{ruled, refused}
-use borrow.Author.Rules.{rules}
 use Rattle.ruling.proofs.rule_of_the_road.Goals as goal
 
 pub returns-in-Accepted : goal.returns-in-Accepted

@@ -1,5 +1,4 @@
 use Rattle.ruling.proofs.Ruled.{ruling_is}
-use borrow.Author.Rules.{rules}
 use Rattle.ruling.proofs.ruling_of.Goals as goal
 
 pub returns : goal.returns

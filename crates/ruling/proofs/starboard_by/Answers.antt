@@ -1,4 +1,3 @@
-use borrow.Author.Rules.{rules}
 use Rattle.ruling.proofs.starboard_by.Goals as goal
 
 pub returns-in-Rule19 : goal.returns-in-Rule19

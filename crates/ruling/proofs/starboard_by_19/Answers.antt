@@ -1,6 +1,5 @@
 use Rattle.colregs.specs.Colregs.{starboard_by19}
 use mathlib.Core.Path.{refl, sym}
-use borrow.Author.Rules.{rules}
 use Rattle.ruling.proofs.starboard_by_19.Goals as goal
 
 pub returns-then-forward : goal.returns-then-forward

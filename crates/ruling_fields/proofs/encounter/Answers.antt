@@ -1,5 +1,4 @@
 use Rattle.text.specs.Text.{bytes}
-use borrow.Author.Rules.{rules}
 use Rattle.ruling_fields.proofs.encounter.Goals as goal
 
 pub returns-in-Overtaking : goal.returns-in-Overtaking

@@ -1,6 +1,5 @@
 use mathlib.Core.Path.{refl}
 use Rattle.ruling_words.specs.Words.{refused}
-use borrow.Author.Rules.{rules}
 use Rattle.ruling_words.proofs.refused.Goals as goal
 
 pub returns : goal.returns

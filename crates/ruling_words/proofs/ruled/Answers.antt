@@ -1,6 +1,5 @@
 use mathlib.Core.Path.{refl}
 use Rattle.ruling_words.specs.Words.{ruled}
-use borrow.Author.Rules.{rules}
 use Rattle.ruling_words.proofs.ruled.Goals as goal
 
 pub returns : goal.returns

@@ -1,6 +1,5 @@
 use mathlib.Core.Path.{sym, ap, ◌∙◌}
 use Rattle.ruling_words.specs.Words.{ruling_words}
-use borrow.Author.Rules.{rules}
 use Rattle.ruling_words.proofs.ruling_words.Goals as goal
 
 pub returns-in-Of : goal.returns-in-Of

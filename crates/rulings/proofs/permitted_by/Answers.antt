@@ -1,4 +1,3 @@
-use borrow.Author.Rules.{rules}
 use Rattle.rulings.proofs.Sides.{by_ruling, no_ruling}
 use Rattle.rulings.proofs.permitted_by.Goals as goal
 

@@ -1,5 +1,4 @@
 use Rattle.seeds.proofs.Steps.{no_courses_lem}
-use borrow.Author.Rules.{rules}
 use Rattle.seeds.proofs.courses_in.Goals as goal
 
 pub returns-in-Refused : goal.returns-in-Refused

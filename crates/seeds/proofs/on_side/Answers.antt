@@ -1,5 +1,4 @@
 use Rattle.seeds.proofs.Steps.{takes_seed, takes_grid, not-permitted}
-use borrow.Author.Rules.{rules}
 use Rattle.seeds.proofs.on_side.Goals as goal
 
 pub returns-in-Of : goal.returns-in-Of

@@ -1,5 +1,4 @@
 use Rattle.seeds.proofs.Steps.{only_starboard, only_port}
-use borrow.Author.Rules.{rules}
 use Rattle.seeds.proofs.only.Goals as goal
 
 pub returns-in-Starboard : goal.returns-in-Starboard

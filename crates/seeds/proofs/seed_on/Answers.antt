@@ -1,5 +1,4 @@
 use Rattle.seeds.proofs.Steps.{seeded}
-use borrow.Author.Rules.{rules}
 use Rattle.seeds.proofs.seed_on.Goals as goal
 
 pub returns-in-To : goal.returns-in-To

@@ -1,5 +1,4 @@
 use Rattle.seeds.proofs.Steps.{no_starboard, no_port, port_smaller, port_not_smaller}
-use borrow.Author.Rules.{rules}
 use Rattle.seeds.proofs.smaller_of.Goals as goal
 
 pub returns-then-p-s : goal.returns-then-p-s

@@ -1,5 +1,4 @@
 use Rattle.seeds.proofs.Steps.{tries_seed}
-use borrow.Author.Rules.{rules}
 use Rattle.seeds.proofs.try_seed.Goals as goal
 
 pub returns-in-Of : goal.returns-in-Of

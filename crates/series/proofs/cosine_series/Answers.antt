@@ -1,5 +1,4 @@
 use Rattle.series.proofs.Halves.{cosine_series_is, above}
-use borrow.Author.Rules.{rules}
 use Rattle.series.proofs.cosine_series.Goals as goal
 
 pub returns : goal.returns

@@ -1,6 +1,5 @@
 use native.Mathlib.Omega.{arith}
 use Rattle.series.proofs.Halves.{sine_is, above}
-use borrow.Author.Rules.{rules}
 use Rattle.series.proofs.sine.Goals as goal
 
 pub returns : goal.returns

@@ -1,5 +1,4 @@
 use Rattle.series.proofs.Halves.{sine_series_is, above}
-use borrow.Author.Rules.{rules}
 use Rattle.series.proofs.sine_series.Goals as goal
 
 pub returns : goal.returns

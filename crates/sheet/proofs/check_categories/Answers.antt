@@ -1,11 +1,8 @@
-use Prim.Native.Nat.{ℕ, ◌+◌, ◌-◌, ◌≤◌, ◌<◌, min}
-use mathlib.Core.Path.{◌≡◌}
+use Prim.Native.Nat.{◌-◌}
 use native.Mathlib.Omega.{arith}
-use lib.ListN.{length, length-map}
-use Rattle.room.specs.Room.{max_contacts}
 use Rattle.room.proofs.Counts.{fits}
 use Rattle.sheet_record.specs.Record.{rows}
-use Rattle.sheet.proofs.Steps.{from, begins, one_more, all_checked}
+use Rattle.sheet.proofs.Steps.{begins, one_more, all_checked}
 use Rattle.sheet.proofs.check_categories.Goals as goal
 
 pub loop-i-init : goal.loop-i-init
@@ -23,15 +20,9 @@ bounds-rows-i c = omega (arith, c.loop-i-test.true, c.loop-i.invariant.0, c.held
 pub loop-i-smaller : goal.loop-i-smaller
 loop-i-smaller c = omega (arith, c.loop-i-test.true)
 
-room : (c : goal.After-unless-verdict) → length c.args.rows.list ≡ max_contacts
-room c = c.well_formed.0.1.1.1.0.1.0.1
-
 pub loop-i-preserved : goal.loop-i-preserved
-loop-i-preserved c = (omega (arith, c.loop-i.invariant.0), one_more c.args.rows.list c.held-i.result c.args.rest c.loop-i.i _ _ _ c.loop-i-test.true c.loop-i.invariant.0 (fits _ _ _ _ c.held-i.ensures (room c)) c.loop-i.invariant.1 c.unless-verdict.ensures)
-
-room_2 : (c : goal.After-loop-i) → length c.args.rows.list ≡ max_contacts
-room_2 c = c.well_formed.0.1.1.1.0.1.0.1
+loop-i-preserved c = (omega (arith, c.loop-i.invariant.0), one_more c.args.rows.list c.held-i.result c.args.rest c.loop-i.i _ _ _ c.loop-i-test.true c.loop-i.invariant.0 (fits _ _ _ _ c.held-i.ensures c.well_formed.0.1.1.1.0.1.0.1) c.loop-i.invariant.1 c.unless-verdict.ensures)
 
 pub returns : goal.returns
 unfolding rows
-returns c = all_checked c.args.rows.list c.held-i.result c.args.rest c.loop-i.i _ _ _ (omega (arith, c.loop-i-test.false)) c.held-i.ensures (room_2 c) c.loop-i.invariant.1
+returns c = all_checked c.args.rows.list c.held-i.result c.args.rest c.loop-i.i _ _ _ (omega (arith, c.loop-i-test.false)) c.held-i.ensures c.well_formed.0.1.1.1.0.1.0.1 c.loop-i.invariant.1

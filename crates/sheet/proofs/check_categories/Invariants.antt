@@ -1,11 +1,7 @@
-use Prim.Native.Nat.{ℕ, ◌+◌, ◌-◌, ◌≤◌, ◌<◌, min}
+use Prim.Native.Nat.{◌-◌, ◌≤◌}
 use mathlib.Core.Path.{◌≡◌}
-use native.Mathlib.Omega.{arith}
-use lib.ListN.{length, length-map}
-use Rattle.room.specs.Room.{max_contacts}
-use Rattle.room.proofs.Counts.{fits}
 use Rattle.sheet_record.specs.Record.{rows}
-use Rattle.sheet.proofs.Steps.{from, begins, one_more, all_checked}
+use Rattle.sheet.proofs.Steps.{from}
 use Rattle.sheet.proofs.check_categories.Given as goal
 
 abbrev pub invariant-loop-i : goal.invariant-loop-i

@@ -1,5 +1,4 @@
 use Rattle.sheet.proofs.Steps.{limits}
-use borrow.Author.Rules.{rules}
 use Rattle.sheet.proofs.check_limits.Goals as goal
 
 pub returns : goal.returns

@@ -1,5 +1,4 @@
 use Rattle.sheet.proofs.Steps.{refused, read}
-use borrow.Author.Rules.{rules}
 use Rattle.sheet.proofs.check_sheet.Goals as goal
 
 pub returns-in-Yes : goal.returns-in-Yes

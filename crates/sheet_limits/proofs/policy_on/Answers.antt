@@ -1,6 +1,5 @@
 use mathlib.Core.Path.{refl}
 use Rattle.sheet_limits.specs.Limits.{policy_on}
-use borrow.Author.Rules.{rules}
 use Rattle.sheet_limits.proofs.policy_on.Goals as goal
 
 pub returns : goal.returns

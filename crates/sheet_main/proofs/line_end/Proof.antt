@@ -1,7 +1,5 @@
-use Prim.Native.Nat.{ℕ, ◌+◌, ◌*◌, ◌-◌, ◌/◌, ◌≤◌, ◌<◌, min}
-use mathlib.Core.Path.{◌≡◌, refl}
-use native.Mathlib.Omega.{arith}
-use lib.ListN.{length, length-take, length-set}
+use Prim.Native.Nat.{◌-◌, ◌≤◌}
+use lib.ListN.{length}
 use borrow.Author.Rules.{rules}
 use Rattle.sheet_main.proofs.line_end.Statement.{statement}
 use Rattle.sheet_main.proofs.line_end.Tie as tie

@@ -1,7 +1,6 @@
 use mathlib.Core.Path.{refl}
 use Rattle.sheet_record.specs.Record.{header_of}
 use Rattle.sheet_record.proofs.header_of.Goals as goal
-use Rattle.sheet_record.proofs.header_of.Lts as at
 
 pub returns : goal.returns
 unfolding header_of

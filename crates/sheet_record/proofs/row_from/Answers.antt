@@ -1,8 +1,6 @@
 use mathlib.Core.Path.{refl}
 use Rattle.sheet_record.specs.Record.{row_from}
-use borrow.Author.Rules.{rules}
 use Rattle.sheet_record.proofs.row_from.Goals as goal
-use Rattle.sheet_record.proofs.row_from.Lts as at
 
 pub returns : goal.returns
 unfolding row_from

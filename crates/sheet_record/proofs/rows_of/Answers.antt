@@ -1,12 +1,11 @@
-use Prim.Native.Nat.{ℕ, ◌+◌, ◌-◌, ◌≤◌, ◌<◌, min}
-use mathlib.Core.Path.{◌≡◌, refl}
+use Prim.Native.Nat.{◌-◌, ◌<◌}
+use mathlib.Core.Path.{refl}
 use native.Mathlib.Omega.{arith}
 use Rattle.room.specs.Room.{max_contacts}
-use Rattle.sheet_words.specs.Word.{words, header_length}
+use Rattle.sheet_words.specs.Word.{words}
 use Rattle.sheet_words.proofs.Words.{at_most_ten}
 use Rattle.sheet_record.specs.Record.{rows}
-use Rattle.sheet_record.proofs.Filling.{Filled, none, more, filled, counted}
-use borrow.Author.Rules.{rules}
+use Rattle.sheet_record.proofs.Filling.{none, more, filled, counted}
 use Rattle.sheet_record.proofs.rows_of.Goals as goal
 
 pub loop-i-init : goal.loop-i-init
@@ -19,11 +18,8 @@ few c = omega (arith, c.loop-i-test.true, c.held-n.ensures)
 pub overflow_mul-i : goal.overflow_mul-i
 overflow_mul-i c = omega (arith, few c)
 
-first_is : (c : goal.In-loop-i) → c.header_length-first.result ≡ header_length (words c.args.bytes.now)
-first_is c = c.header_length-first.ensures
-
 pub overflow_add-first : goal.overflow_add-first
-overflow_add-first c = omega (arith, few c, first_is c, at_most_ten (words c.args.bytes.now))
+overflow_add-first c = omega (arith, few c, c.header_length-first.ensures, at_most_ten (words c.args.bytes.now))
 
 -- how many contacts are read, and where the first begins
 few_2 : (c : goal.After-row_from-row) → c.loop-i.i < max_contacts
@@ -35,11 +31,8 @@ offset_bounds-rows-i c = omega (arith, few_2 c)
 pub bounds-rows-i : goal.bounds-rows-i
 bounds-rows-i c = omega (arith, few_2 c, c.loop-i.invariant.1.full)
 
-first_is_2 : (c : goal.After-row_from-row) → c.header_length-first.result ≡ header_length (words c.args.bytes.now)
-first_is_2 c = c.header_length-first.ensures
-
 pub loop-i-preserved : goal.loop-i-preserved
-loop-i-preserved c = (omega arith, more _ _ _ _ _ (few_2 c) (first_is_2 c) c.row_from-row.ensures c.loop-i.invariant.1)
+loop-i-preserved c = (omega arith, more _ _ _ _ _ (few_2 c) c.header_length-first.ensures c.row_from-row.ensures c.loop-i.invariant.1)
 
 pub returns : goal.returns
 unfolding rows

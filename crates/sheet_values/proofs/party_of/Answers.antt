@@ -1,7 +1,6 @@
 use Rattle.std.proofs.Common.{refl}
 use Rattle.sheet_values.specs.Values.{party_of}
 use Rattle.sheet_values.proofs.party_of.Goals as goal
-use Rattle.sheet_values.proofs.party_of.Lts as at
 
 pub returns : goal.returns
 unfolding party_of

@@ -1,9 +1,6 @@
-use Rattle.std.proofs.Common.{◌≡◌, ℕ, ◌+◌, ◌-◌, ◌<◌, ◌≤◌, min, length, refl, arith, rules}
-use lib.ListN.{length-map}
-use Rattle.room.specs.Room.{max_contacts}
-use Rattle.traffic.specs.Traffic.{contacts}
+use Rattle.std.proofs.Common.{◌-◌, ◌≤◌}
 use Rattle.sheet_record.specs.Record.{rows}
-use Rattle.sheet_values.proofs.Filling.{Filled, none, more, filled}
+use Rattle.sheet_values.proofs.Filling.{Filled}
 use Rattle.sheet_values.proofs.traffic_of.Given as goal
 
 abbrev pub invariant-loop-i : goal.invariant-loop-i

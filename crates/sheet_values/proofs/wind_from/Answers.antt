@@ -1,4 +1,4 @@
-use Rattle.std.proofs.Common.{refl, rules}
+use Rattle.std.proofs.Common.{refl}
 use Rattle.sheet_values.specs.Values.{wind_from}
 use Rattle.sheet_values.proofs.wind_from.Goals as goal
 

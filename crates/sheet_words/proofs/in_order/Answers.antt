@@ -1,10 +1,8 @@
-use Prim.Native.Nat.{ℕ, ◌+◌, ◌-◌, ◌*◌, ◌/◌, ◌≤◌, ◌<◌}
-use mathlib.Core.Path.{◌≡◌, refl, sym, ◌∙◌, subst}
+use Prim.Native.Nat.{◌+◌, ◌*◌, ◌≤◌}
+use mathlib.Core.Path.{refl, ◌∙◌}
 use native.Mathlib.Omega.{arith}
-use lib.ListN.{length, get_or}
-use Rattle.sheet_words.specs.Word.{words}
-use Rattle.sheet_words.proofs.Words.{count, at_place, left, goes_on, wrong, ends}
-use borrow.Author.Rules.{rules}
+use lib.ListN.{length}
+use Rattle.sheet_words.proofs.Words.{count, at_place, goes_on, wrong, ends}
 use Rattle.sheet_words.proofs.in_order.Goals as goal
 
 pub loop-i-init : goal.loop-i-init
@@ -24,21 +22,15 @@ word_from-requires c = inside c
 inside_2 : (c : goal.Then-kind_of-kind) → 4 * c.loop-i.i + 4 ≤ length c.args.bytes.now
 inside_2 c = omega (arith, c.loop-i-test.true, c.requires, count c.args.bytes.now)
 
-word_is : (c : goal.Then-kind_of-kind) → c.word_from.result ≡ get_or (words c.args.bytes.now) c.loop-i.i 0
-word_is c = c.word_from.ensures ∙ at_place _ _ (inside_2 c)
-
 pub returns-then-kind_of-kind : goal.returns-then-kind_of-kind
-returns-then-kind_of-kind c = wrong _ _ _ c.loop-i-test.true c.requires _ _ _ (word_is c) c.kind_of.ensures c.if-kind_of-kind.true ∙ c.loop-i.invariant
+returns-then-kind_of-kind c = wrong _ _ _ c.loop-i-test.true c.requires _ _ _ (c.word_from.ensures ∙ at_place _ _ (inside_2 c)) c.kind_of.ensures c.if-kind_of-kind.true ∙ c.loop-i.invariant
 
 -- the word at hand
 inside_3 : (c : goal.After-next_kind-kind) → 4 * c.loop-i.i + 4 ≤ length c.args.bytes.now
 inside_3 c = omega (arith, c.loop-i-test.true, c.requires, count c.args.bytes.now)
 
-word_is_2 : (c : goal.After-next_kind-kind) → c.word_from.result ≡ get_or (words c.args.bytes.now) c.loop-i.i 0
-word_is_2 c = c.word_from.ensures ∙ at_place _ _ (inside_3 c)
-
 pub loop-i-preserved : goal.loop-i-preserved
-loop-i-preserved c = goes_on _ _ _ c.loop-i-test.true c.requires _ _ _ _ (word_is_2 c) c.kind_of.ensures c.if-kind_of-kind.false c.next_kind-kind.ensures ∙ c.loop-i.invariant
+loop-i-preserved c = goes_on _ _ _ c.loop-i-test.true c.requires _ _ _ _ (c.word_from.ensures ∙ at_place _ _ (inside_3 c)) c.kind_of.ensures c.if-kind_of-kind.false c.next_kind-kind.ensures ∙ c.loop-i.invariant
 
 pub returns : goal.returns
 returns c = ends _ _ _ _ c.loop-i-test.false ∙ c.loop-i.invariant

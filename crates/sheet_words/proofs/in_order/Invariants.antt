@@ -1,10 +1,7 @@
-use Prim.Native.Nat.{ℕ, ◌+◌, ◌-◌, ◌*◌, ◌/◌, ◌≤◌, ◌<◌}
-use mathlib.Core.Path.{◌≡◌, refl, sym, ◌∙◌, subst}
-use native.Mathlib.Omega.{arith}
-use lib.ListN.{length, get_or}
+use Prim.Native.Nat.{◌-◌}
+use mathlib.Core.Path.{◌≡◌}
 use Rattle.sheet_words.specs.Word.{words}
-use Rattle.sheet_words.proofs.Words.{count, at_place, left, goes_on, wrong, ends}
-use borrow.Author.Rules.{rules}
+use Rattle.sheet_words.proofs.Words.{left}
 use Rattle.sheet_words.proofs.in_order.Given as goal
 
 abbrev pub invariant-loop-i : goal.invariant-loop-i

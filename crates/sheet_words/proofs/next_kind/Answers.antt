@@ -1,6 +1,5 @@
 use borrow.Author.Tests.{lt-ltb, le-ltb}
 use mathlib.Core.Path.{refl}
-use borrow.Author.Rules.{rules}
 use Rattle.sheet_words.proofs.next_kind.Goals as goal
 
 pub returns-then-kind-lt14 : goal.returns-then-kind-lt14

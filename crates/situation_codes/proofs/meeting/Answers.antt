@@ -1,6 +1,5 @@
 use mathlib.Core.Path.{refl}
 use Rattle.situation_codes.specs.Situations.{meeting}
-use borrow.Author.Rules.{rules}
 use Rattle.situation_codes.proofs.meeting.Goals as goal
 
 pub returns : goal.returns

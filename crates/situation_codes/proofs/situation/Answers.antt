@@ -1,6 +1,5 @@
 use mathlib.Core.Path.{refl}
 use Rattle.situation_codes.specs.Situations.{situation}
-use borrow.Author.Rules.{rules}
 use Rattle.situation_codes.proofs.situation.Goals as goal
 
 pub returns : goal.returns

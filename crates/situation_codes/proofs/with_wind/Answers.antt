@@ -1,7 +1,6 @@
 use borrow.Author.Tests.{eq-eqb, ne_eqb}
 use mathlib.Core.Path.{refl}
 use Rattle.situation_codes.specs.Situations.{with_wind}
-use borrow.Author.Rules.{rules}
 use Rattle.situation_codes.proofs.with_wind.Goals as goal
 
 pub returns-then-known-eq0 : goal.returns-then-known-eq0

@@ -1,5 +1,4 @@
 use mathlib.Core.Path.{refl}
-use borrow.Author.Rules.{rules}
 use Rattle.targets.proofs.keep.Goals as goal
 
 pub returns-then-outranks : goal.returns-then-outranks

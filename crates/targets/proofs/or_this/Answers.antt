@@ -1,6 +1,5 @@
 use borrow.Author.Tests.{eq-eqb, ne_eqb}
 use mathlib.Core.Path.{refl}
-use borrow.Author.Rules.{rules}
 use Rattle.targets.proofs.or_this.Goals as goal
 
 pub returns-then-e-target : goal.returns-then-e-target

@@ -1,4 +1,4 @@
-use Rattle.std.proofs.Common.{arith, lit≤, rules}
+use Rattle.std.proofs.Common.{arith, lit≤}
 use Rattle.time.proofs.Nanoseconds.{no_time, below_a_second, fraction_lt, whole-lt, with_seconds}
 use Rattle.time.proofs.binary_fraction.Goals as goal
 

@@ -1,4 +1,4 @@
-use Rattle.std.proofs.Common.{arith, rules}
+use Rattle.std.proofs.Common.{arith}
 use Rattle.time.proofs.Nanoseconds.{one_second_more, clock_of}
 use Rattle.time.proofs.carried.Goals as goal
 

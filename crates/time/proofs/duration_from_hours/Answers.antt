@@ -1,5 +1,4 @@
 use Rattle.time.specs.Clock.{from_hours}
-use Rattle.std.proofs.Common.{rules}
 use Rattle.time.proofs.duration_from_hours.Goals as goal
 
 pub returns : goal.returns

@@ -1,4 +1,4 @@
-use Rattle.std.proofs.Common.{arith, rules}
+use Rattle.std.proofs.Common.{arith}
 use Rattle.time.proofs.Nanoseconds.{rounds_down, rest_above, low_above, at_half, few_nanos}
 use Rattle.time.proofs.fraction_nanos.Goals as goal
 

@@ -1,4 +1,4 @@
-use Rattle.std.proofs.Common.{T, sym, subst, arith, rules}
+use Rattle.std.proofs.Common.{T, sym, subst, arith}
 use Rattle.laws.proofs.Pattern.{no_nan_above}
 use Rattle.time.proofs.Seconds.{tiny, field_le, whole-fits, whole_seconds, part-seconds}
 use Rattle.time.proofs.positive_seconds.Goals as goal

@@ -1,5 +1,4 @@
 use Rattle.time.proofs.Nanoseconds.{power}
-use Rattle.std.proofs.Common.{rules}
 use Rattle.time.proofs.power_of_two.Goals as goal
 
 pub returns : goal.returns

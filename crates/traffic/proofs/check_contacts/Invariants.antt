@@ -1,12 +1,6 @@
-use Rattle.traffic.specs.Traffic.{contacts}
-use Rattle.traffic.proofs.Loops.{from, begins, one_more, all_checked}
-use Prim.Native.Nat.{ℕ, ◌+◌, ◌-◌, ◌≤◌, ◌<◌, min}
-use mathlib.Core.Path.{◌≡◌, refl, sym, ◌∙◌, ap}
-use native.Mathlib.Omega.{arith}
-use borrow.Author.Rules.{rules}
-use lib.ListN.{length, length-map}
-use Rattle.room.specs.Room.{max_contacts}
-use Rattle.room.proofs.Counts.{fits}
+use Rattle.traffic.proofs.Loops.{from}
+use Prim.Native.Nat.{◌-◌, ◌≤◌}
+use mathlib.Core.Path.{◌≡◌}
 use Rattle.traffic.proofs.check_contacts.Given as goal
 
 abbrev pub invariant-loop-i : goal.invariant-loop-i

@@ -1,6 +1,5 @@
 use mathlib.Core.Path.{refl}
 use Rattle.arguments.proofs.Checks.{one-check}
-use borrow.Author.Rules.{rules}
 use Rattle.traffic.proofs.check_count.Goals as goal
 
 pub returns : goal.returns

@@ -3,7 +3,6 @@ use Rattle.arguments.specs.Check.{verdict, contact_checks}
 use Rattle.arguments.proofs.Checks.{verdict_joined}
 use Rattle.situation.specs.Arguments.{party_checks}
 use Rattle.traffic.specs.Traffic.{entry_checks}
-use borrow.Author.Rules.{rules}
 use Rattle.traffic.proofs.check_entry.Goals as goal
 
 pub returns : goal.returns

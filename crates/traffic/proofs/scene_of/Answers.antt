@@ -1,13 +1,9 @@
 use Rattle.clearing.specs.Clearing.{movings, moving}
 use Rattle.traffic.specs.Traffic.{contacts, targets}
-use Rattle.traffic.proofs.Loops.{Filled, more, filled}
-use Prim.Native.Nat.{ℕ, ◌+◌, ◌-◌, ◌≤◌, ◌<◌, min}
-use mathlib.Core.Path.{◌≡◌, refl, sym, ◌∙◌, ap}
+use Rattle.traffic.proofs.Loops.{more, filled}
+use Prim.Native.Nat.{◌-◌}
+use mathlib.Core.Path.{refl, ◌∙◌, ap}
 use native.Mathlib.Omega.{arith}
-use borrow.Author.Rules.{rules}
-use lib.ListN.{length, length-map}
-use Rattle.room.specs.Room.{max_contacts}
-use Rattle.room.proofs.Counts.{fits}
 use Rattle.traffic.proofs.scene_of.Goals as goal
 
 pub loop-i-init : goal.loop-i-init
@@ -25,15 +21,9 @@ offset_bounds-scene-i c = omega (arith, c.loop-i-test.true, c.held-count.ensures
 pub bounds-scene-i : goal.bounds-scene-i
 bounds-scene-i c = omega (arith, c.loop-i-test.true, c.held-count.ensures, c.loop-i.invariant.1)
 
-room : (c : goal.After-moving_of-m) → length c.args.t.list ≡ max_contacts
-room c = c.well_formed.0.1.1.1.0.1.0.1
-
 pub loop-i-preserved : goal.loop-i-preserved
-loop-i-preserved c = (omega arith, more _ _ _ _ _ _ (omega (arith, c.loop-i-test.true, c.held-count.ensures)) (room c) (c.moving_of-m.ensures ∙ ap moving c.target_of.ensures) c.loop-i.invariant.1)
-
-room_2 : (c : goal.After-loop-i) → length c.args.t.list ≡ max_contacts
-room_2 c = c.well_formed.0.1.1.1.0.1.0.1
+loop-i-preserved c = (omega arith, more _ _ _ _ _ _ (omega (arith, c.loop-i-test.true, c.held-count.ensures)) c.well_formed.0.1.1.1.0.1.0.1 (c.moving_of-m.ensures ∙ ap moving c.target_of.ensures) c.loop-i.invariant.1)
 
 pub returns : goal.returns
 unfolding movings targets contacts
-returns c = filled _ _ _ _ _ _ (omega (arith, c.loop-i-test.false, c.loop-i.invariant.0)) c.held-count.ensures (room_2 c) c.loop-i.invariant.1
+returns c = filled _ _ _ _ _ _ (omega (arith, c.loop-i-test.false, c.loop-i.invariant.0)) c.held-count.ensures c.well_formed.0.1.1.1.0.1.0.1 c.loop-i.invariant.1

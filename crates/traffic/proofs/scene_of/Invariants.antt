@@ -1,13 +1,6 @@
-use Rattle.clearing.specs.Clearing.{movings, moving}
-use Rattle.traffic.specs.Traffic.{contacts, targets}
-use Rattle.traffic.proofs.Loops.{Filled, more, filled}
-use Prim.Native.Nat.{ℕ, ◌+◌, ◌-◌, ◌≤◌, ◌<◌, min}
-use mathlib.Core.Path.{◌≡◌, refl, sym, ◌∙◌, ap}
-use native.Mathlib.Omega.{arith}
-use borrow.Author.Rules.{rules}
-use lib.ListN.{length, length-map}
+use Rattle.traffic.proofs.Loops.{Filled}
+use Prim.Native.Nat.{◌-◌, ◌≤◌}
 use Rattle.room.specs.Room.{max_contacts}
-use Rattle.room.proofs.Counts.{fits}
 use Rattle.traffic.proofs.scene_of.Given as goal
 
 abbrev pub invariant-loop-i : goal.invariant-loop-i

@@ -1,6 +1,5 @@
 use native.Mathlib.Omega.{arith}
 use Rattle.trials.proofs.Listed.{counted, room}
-use borrow.Author.Rules.{rules}
 use Rattle.trials.proofs.count.Goals as goal
 
 pub overflow_add-result : goal.overflow_add-result

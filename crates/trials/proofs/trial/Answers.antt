@@ -1,5 +1,4 @@
 use Rattle.trials.proofs.Listed.{cut, kept}
-use borrow.Author.Rules.{rules}
 use Rattle.trials.proofs.trial.Goals as goal
 
 pub returns-then-most-sum : goal.returns-then-most-sum

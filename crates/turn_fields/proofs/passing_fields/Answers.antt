@@ -1,6 +1,5 @@
 use Rattle.text.specs.Text.{bytes}
 use Rattle.text.proofs.Appending.{then}
-use borrow.Author.Rules.{rules}
 use Rattle.turn_fields.proofs.passing_fields.Goals as goal
 
 pub returns-in-Nobody : goal.returns-in-Nobody

@@ -1,5 +1,4 @@
 use Rattle.text.specs.Text.{bytes}
-use borrow.Author.Rules.{rules}
 use Rattle.turn_fields.proofs.side_field.Goals as goal
 
 pub returns-in-Starboard : goal.returns-in-Starboard

@@ -1,9 +1,6 @@
-use Prim.Native.Nat.{ℕ, suc, ◌+◌, ◌-◌, ◌≤◌, ◌<◌}
+use Prim.Native.Nat.{ℕ, suc, ◌-◌, ◌<◌}
 use mathlib.Core.Path.{◌≡◌}
 use native.Mathlib.Omega.{arith}
-use borrow.Author.Rules.{rules}
-use Rattle.laws.specs.Units.{units_of}
-use Rattle.turns.specs.Turns.{Left}
 use Rattle.turns.proofs.Laws.{one_more, ended}
 use Rattle.turns.proofs.reduced.Goals as goal
 

@@ -1,10 +1,6 @@
-use Prim.Native.Nat.{ℕ, suc, ◌+◌, ◌-◌, ◌≤◌, ◌<◌}
-use mathlib.Core.Path.{◌≡◌}
-use native.Mathlib.Omega.{arith}
-use borrow.Author.Rules.{rules}
+use Prim.Native.Nat.{◌≤◌}
 use Rattle.laws.specs.Units.{units_of}
 use Rattle.turns.specs.Turns.{Left}
-use Rattle.turns.proofs.Laws.{one_more, ended}
 use Rattle.turns.proofs.reduced.Given as goal
 
 abbrev pub invariant-loop-k : goal.invariant-loop-k

@@ -1,4 +1,4 @@
-use mathlib.Core.Path.{◌≡◌, ap, ◌∙◌}
+use mathlib.Core.Path.{ap, ◌∙◌}
 use lib.Ieee.{neg}
 use Rattle.turns.proofs.Laws.{turned_round, opposite}
 use Rattle.turns.proofs.remainder.Goals as goal

@@ -1,49 +1,33 @@
-use Prim.Native.Nat.{◌≤◌}
-use mathlib.Core.Path.{◌≡◌, refl, sym, ◌∙◌, subst}
+use mathlib.Core.Path.{sym, ◌∙◌, subst}
 use lib.Dec.{T, lit≤}
-use lib.Ieee.{binary64, fits, div, of_bits}
+use lib.Ieee.{div, of_bits}
 use Rattle.laws.proofs.Bools.{holds}
 use Rattle.turns.proofs.Laws.{full_is, 720_is, finite_under, itself, not_negative, from_one, from_highest, is_remainder, no_remainder}
 use Rattle.turns.proofs.remainder_of_positive.Goals as goal
 
-held : (c : goal.Then-a) → T (fits binary64 c.args.a)
-held c = subst T (sym c.well_formed.0.1) tt
-
 pub returns-then-a : goal.returns-then-a
 returns-then-a c =
-    itself c.args.a c.requires (held c) (finite_under c.args.a c.requires _ _ full_is c.if-a.true) c.if-a.true
-
-held_2 : (c : goal.Then-a-2) → T (fits binary64 c.args.a)
-held_2 c = subst T (sym c.well_formed.0.1) tt
+    itself c.args.a c.requires (subst T (sym c.well_formed.0.1) tt) (finite_under c.args.a c.requires _ _ full_is c.if-a.true) c.if-a.true
 
 pub reduced-requires : goal.reduced-requires
 reduced-requires c =
     let f = finite_under c.args.a c.requires _ _ 720_is c.if-a-2.true in
-    (from_one c.args.a (held_2 c) f (not_negative c.args.a c.requires (held_2 c) f c.if-a.false) (holds c.if-a-2.true), lit≤ tt)
-
-held_3 : (c : goal.After-reduced) → T (fits binary64 c.args.a)
-held_3 c = subst T (sym c.well_formed.0.1) tt
+    (from_one c.args.a (subst T (sym c.well_formed.0.1) tt) f (not_negative c.args.a c.requires (subst T (sym c.well_formed.0.1) tt) f c.if-a.false) (holds c.if-a-2.true), lit≤ tt)
 
 pub returns-then-a-2 : goal.returns-then-a-2
 returns-then-a-2 c =
     let f = finite_under c.args.a c.requires _ _ 720_is c.if-a-2.true in
-    is_remainder c.args.a (held_3 c) f (not_negative c.args.a c.requires (held_3 c) f c.if-a.false) _ c.reduced.ensures
-
-held_4 : (c : goal.Then-is_finite) → T (fits binary64 c.args.a)
-held_4 c = subst T (sym c.well_formed.0.1) tt
+    is_remainder c.args.a (subst T (sym c.well_formed.0.1) tt) f (not_negative c.args.a c.requires (subst T (sym c.well_formed.0.1) tt) f c.if-a.false) _ c.reduced.ensures
 
 pub reduced-requires-then-is_finite : goal.reduced-requires-then-is_finite
 reduced-requires-then-is_finite c =
     let f = holds (sym c.is_finite.ensures ∙ c.if-is_finite.true) in
-    (from_highest c.args.a (held_4 c) f (not_negative c.args.a c.requires (held_4 c) f c.if-a.false), lit≤ tt)
-
-held_5 : (c : goal.After-reduced-then-is_finite) → T (fits binary64 c.args.a)
-held_5 c = subst T (sym c.well_formed.0.1) tt
+    (from_highest c.args.a (subst T (sym c.well_formed.0.1) tt) f (not_negative c.args.a c.requires (subst T (sym c.well_formed.0.1) tt) f c.if-a.false), lit≤ tt)
 
 pub returns-then-is_finite : goal.returns-then-is_finite
 returns-then-is_finite c =
     let f = holds (sym c.is_finite.ensures ∙ c.if-is_finite.true) in
-    is_remainder c.args.a (held_5 c) f (not_negative c.args.a c.requires (held_5 c) f c.if-a.false) _ c.reduced-then-is_finite.ensures
+    is_remainder c.args.a (subst T (sym c.well_formed.0.1) tt) f (not_negative c.args.a c.requires (subst T (sym c.well_formed.0.1) tt) f c.if-a.false) _ c.reduced-then-is_finite.ensures
 
 pub returns : goal.returns
 unfolding div of_bits

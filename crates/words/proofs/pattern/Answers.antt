@@ -1,5 +1,5 @@
 use Rattle.words.specs.Words.{pattern}
-use mathlib.Core.Path.{refl, sym, ap, ◌∙◌}
+use mathlib.Core.Path.{refl}
 use Rattle.laws.proofs.Pattern.{no_nan_of_eq}
 use Rattle.words.proofs.pattern.Goals as goal
 

@@ -1,6 +1,5 @@
 use mathlib.Core.Path.{refl}
 use Rattle.words.specs.Words.{refused}
-use borrow.Author.Rules.{rules}
 use Rattle.words.proofs.refused.Goals as goal
 
 pub returns : goal.returns

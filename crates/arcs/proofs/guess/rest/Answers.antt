@@ -3,7 +3,6 @@ use native.Mathlib.Omega.{arith}
 use Prim.Native.Nat.{◌*◌, ◌/◌, ◌^◌}
 use lib.Dec.{le→leb}
 use lib.Ieee.{in_float}
-use borrow.Author.Rules.{rules}
 use Rattle.arcs.proofs.guess.rest.Goals as goal
 
 pub overflow_mul-v : goal.overflow_mul-v

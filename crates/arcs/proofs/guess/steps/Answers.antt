@@ -1,5 +1,4 @@
 use Rattle.arcs.proofs.Checks.{number}
-use borrow.Author.Rules.{rules}
 use Rattle.arcs.proofs.guess.steps.Goals as goal
 
 pub float_to_bits-result : goal.float_to_bits-result

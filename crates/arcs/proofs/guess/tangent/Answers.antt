@@ -2,7 +2,6 @@ use native.Mathlib.Omega.{arith}
 use Prim.Native.Nat.{◌/◌, ◌^◌}
 use lib.Dec.{le→leb}
 use lib.Ieee.{in_float}
-use borrow.Author.Rules.{rules}
 use Rattle.arcs.proofs.guess.tangent.Goals as goal
 
 pub int_to_float-t : goal.int_to_float-t

@@ -1,5 +1,4 @@
 use Rattle.assessment.proofs.Assessed.{answered, refused}
-use borrow.Author.Rules.{rules}
 use Rattle.assessment.proofs.assess.assess.Goals as goal
 
 pub returns-in-Accepted : goal.returns-in-Accepted

@@ -1,5 +1,4 @@
 use Rattle.assessment.proofs.Assessed.{gathered}
-use borrow.Author.Rules.{rules}
 use Rattle.assessment.proofs.assess.assessed.Goals as goal
 
 pub returns : goal.returns

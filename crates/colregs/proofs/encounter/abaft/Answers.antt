@@ -1,6 +1,5 @@
 use Rattle.colregs.specs.Colregs.{abaft}
 use mathlib.Core.Path.{refl}
-use borrow.Author.Rules.{rules}
 use Rattle.colregs.proofs.encounter.abaft.Goals as goal
 
 pub returns : goal.returns

@@ -1,5 +1,4 @@
 use Rattle.colregs.proofs.Encounters.{overtaking, overtaken, head_on, crossing}
-use borrow.Author.Rules.{rules}
 use Rattle.colregs.proofs.encounter.encounter_of.Goals as goal
 
 pub returns-then-own_overtakes : goal.returns-then-own_overtakes

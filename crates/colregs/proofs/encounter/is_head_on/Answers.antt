@@ -1,5 +1,4 @@
 use Rattle.colregs.proofs.Encounters.{nearly_ahead, not_ahead}
-use borrow.Author.Rules.{rules}
 use Rattle.colregs.proofs.encounter.is_head_on.Goals as goal
 
 pub returns-then-relative-config : goal.returns-then-relative-config

@@ -1,6 +1,5 @@
 use Rattle.colregs.specs.Colregs.{own_comes_up}
 use mathlib.Core.Path.{refl}
-use borrow.Author.Rules.{rules}
 use Rattle.colregs.proofs.encounter.own_comes_up.Goals as goal
 
 pub returns-then-f : goal.returns-then-f

@@ -1,6 +1,5 @@
 use Rattle.std.proofs.Common.{ap, not}
 use Rattle.colregs.proofs.Encounters.{up_alone, up_both, not_up}
-use borrow.Author.Rules.{rules}
 use Rattle.colregs.proofs.encounter.own_overtakes.Goals as goal
 
 pub returns-then-not-target_up : goal.returns-then-not-target_up

@@ -1,5 +1,4 @@
 use Rattle.colregs.proofs.Encounters.{ahead_to_starboard, ahead_to_port, on_starboard, on_port}
-use borrow.Author.Rules.{rules}
 use Rattle.colregs.proofs.encounter.side_of.Goals as goal
 
 pub returns-then-f : goal.returns-then-f

@@ -1,5 +1,4 @@
 use Rattle.constraints.proofs.Constrained.{made}
-use borrow.Author.Rules.{rules}
 use Rattle.constraints.proofs.ManoeuvreConstraints.new.Goals as goal
 
 pub returns : goal.returns

@@ -1,5 +1,4 @@
 use Rattle.constraints.proofs.Constrained.{turns}
-use borrow.Author.Rules.{rules}
 use Rattle.constraints.proofs.ManoeuvreConstraints.with_rate_of_turn.Goals as goal
 
 pub returns : goal.returns

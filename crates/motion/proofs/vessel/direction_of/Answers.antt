@@ -1,6 +1,5 @@
 use mathlib.Core.Path.{refl}
 use Rattle.motion.specs.Vessel.{direction_of}
-use borrow.Author.Rules.{rules}
 use Rattle.motion.proofs.vessel.direction_of.Goals as goal
 
 pub returns : goal.returns

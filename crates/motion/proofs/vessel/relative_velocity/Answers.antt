@@ -1,6 +1,5 @@
 use mathlib.Core.Path.{refl}
 use Rattle.motion.specs.Vessel.{relative_velocity}
-use borrow.Author.Rules.{rules}
 use Rattle.motion.proofs.vessel.relative_velocity.Goals as goal
 
 pub returns : goal.returns

@@ -1,6 +1,5 @@
 use mathlib.Core.Path.{refl}
 use Rattle.motion.specs.Vessel.{resolved}
-use borrow.Author.Rules.{rules}
 use Rattle.motion.proofs.vessel.resolved.Goals as goal
 
 pub returns : goal.returns

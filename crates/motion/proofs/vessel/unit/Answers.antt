@@ -1,6 +1,5 @@
 use mathlib.Core.Path.{refl}
 use Rattle.motion.specs.Vessel.{unit}
-use borrow.Author.Rules.{rules}
 use Rattle.motion.proofs.vessel.unit.Goals as goal
 
 pub returns : goal.returns

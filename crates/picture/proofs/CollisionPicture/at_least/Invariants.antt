@@ -1,13 +1,9 @@
-use Prim.Native.Nat.{ℕ, ◌+◌, ◌-◌, ◌≤◌, ◌<◌, min}
-use mathlib.Core.Path.{◌≡◌, refl, sym, ◌∙◌, ap}
-use native.Mathlib.Omega.{arith}
-use lib.ListN.{length, length-map}
-use Rattle.room.specs.Room.{max_contacts}
+use Prim.Native.Nat.{◌-◌, ◌≤◌}
+use mathlib.Core.Path.{◌≡◌}
+use lib.ListN.{length}
 use mathlib.Core.List.{[]}
-use Rattle.room.proofs.Counts.{fits}
 use Rattle.picture.specs.Picture.{targets}
-use Rattle.picture.proofs.Loops.{left, step, done}
-use borrow.Author.Rules.{rules}
+use Rattle.picture.proofs.Loops.{left}
 use Rattle.picture.proofs.CollisionPicture.at_least.Given as goal
 
 abbrev pub invariant-loop-i : goal.invariant-loop-i

@@ -1,16 +1,10 @@
-use Prim.Native.Nat.{ℕ, ◌+◌, ◌-◌, ◌≤◌, ◌<◌, min}
-use mathlib.Core.Path.{◌≡◌, refl, sym, ◌∙◌, ap}
+use Prim.Native.Nat.{◌-◌}
+use mathlib.Core.Path.{◌≡◌, refl, ◌∙◌}
 use native.Mathlib.Omega.{arith}
-use lib.ListN.{length, length-map}
-use Rattle.room.specs.Room.{max_contacts}
-use lib.Seq.{slice}
-use Rattle.laws.specs.Fold.{fold}
 use Rattle.laws.proofs.Fold.{fold_step, fold_done}
 use Rattle.room.proofs.Counts.{fits}
-use Rattle.targets.specs.declared.PerhapsTarget.TheVariants.{Nothing}
-use Rattle.picture.specs.Picture.{targets, keep, most_dangerous}
+use Rattle.picture.specs.Picture.{targets, most_dangerous}
 use Rattle.picture.proofs.Loops.{folded}
-use borrow.Author.Rules.{rules}
 use Rattle.picture.proofs.CollisionPicture.most_dangerous.Goals as goal
 
 pub loop-i-init : goal.loop-i-init
@@ -22,18 +16,12 @@ offset_bounds-self-i c = omega (arith, c.loop-i-test.true, c.held-count.ensures)
 pub bounds-self-i : goal.bounds-self-i
 bounds-self-i c = omega (arith, c.loop-i-test.true, c.held-count.ensures)
 
-room : (c : goal.After-keep-best) → length c.args.self.list ≡ max_contacts
-room c = c.well_formed.0.1.1.1.0.1.0.1
-
 pub loop-i-preserved : goal.loop-i-preserved
-loop-i-preserved c = (omega arith, fold_step _ _ _ _ _ _ _ c.loop-i-test.true (fits _ _ _ _ c.held-count.ensures (room c)) c.keep-best.ensures ∙ c.loop-i.invariant.1)
-
-room_2 : (c : goal.After-loop-i) → length c.args.self.list ≡ max_contacts
-room_2 c = c.well_formed.0.1.1.1.0.1.0.1
+loop-i-preserved c = (omega arith, fold_step _ _ _ _ _ _ _ c.loop-i-test.true (fits _ _ _ _ c.held-count.ensures c.well_formed.0.1.1.1.0.1.0.1) c.keep-best.ensures ∙ c.loop-i.invariant.1)
 
 reached : (c : goal.After-loop-i) → c.loop-i.i ≡ c.held-count.result
 reached c = omega (arith, c.loop-i-test.false, c.loop-i.invariant.0)
 
 pub returns : goal.returns
 unfolding targets most_dangerous
-returns c = folded _ _ _ _ _ c.held-count.ensures (room_2 c) (fold_done _ _ _ _ _ _ (reached c) c.loop-i.invariant.1)
+returns c = folded _ _ _ _ _ c.held-count.ensures c.well_formed.0.1.1.1.0.1.0.1 (fold_done _ _ _ _ _ _ (reached c) c.loop-i.invariant.1)

@@ -1,16 +1,9 @@
-use Prim.Native.Nat.{ℕ, ◌+◌, ◌-◌, ◌≤◌, ◌<◌, min}
-use mathlib.Core.Path.{◌≡◌, refl, sym, ◌∙◌, ap}
-use native.Mathlib.Omega.{arith}
-use lib.ListN.{length, length-map}
-use Rattle.room.specs.Room.{max_contacts}
+use Prim.Native.Nat.{◌-◌, ◌≤◌}
+use mathlib.Core.Path.{◌≡◌}
 use lib.Seq.{slice}
 use Rattle.laws.specs.Fold.{fold}
-use Rattle.laws.proofs.Fold.{fold_step, fold_done}
-use Rattle.room.proofs.Counts.{fits}
 use Rattle.targets.specs.declared.PerhapsTarget.TheVariants.{Nothing}
-use Rattle.picture.specs.Picture.{targets, or_this, found}
-use Rattle.picture.proofs.Loops.{folded}
-use borrow.Author.Rules.{rules}
+use Rattle.picture.specs.Picture.{or_this, found}
 use Rattle.picture.proofs.CollisionPicture.target.Given as goal
 
 abbrev pub invariant-loop-i : goal.invariant-loop-i

@@ -1,5 +1,4 @@
 use Rattle.policy.proofs.Made.{made, not_made}
-use borrow.Author.Rules.{rules}
 use Rattle.policy.proofs.CpaPolicy.new.Goals as goal
 
 pub returns-in-Accepted : goal.returns-in-Accepted

@@ -2,7 +2,6 @@ use Rattle.relative_motion.specs.Approach.{approach_from}
 use Rattle.motion.specs.Vessel.{offset}
 use mathlib.Core.Path.{ap, ◌∙◌}
 use Rattle.relative_motion.proofs.Approaches.{answered, refused}
-use borrow.Author.Rules.{rules}
 use Rattle.relative_motion.proofs.approach.closest_point_of_approach.Goals as goal
 
 pub returns-in-Accepted : goal.returns-in-Accepted

@@ -2,7 +2,6 @@ use Rattle.motion.specs.Vessel.{offset}
 use Rattle.relative_motion.specs.Approach.{approach_from, passing_in}
 use mathlib.Core.Path.{ap, ◌∙◌}
 use Rattle.relative_motion.proofs.Approaches.{passed, pass_refused}
-use borrow.Author.Rules.{rules}
 use Rattle.relative_motion.proofs.approach.passing.Goals as goal
 
 pub returns-in-Accepted : goal.returns-in-Accepted

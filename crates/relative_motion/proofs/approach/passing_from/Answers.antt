@@ -1,5 +1,4 @@
 use Rattle.relative_motion.proofs.Approaches.{pass_stationary, pass_opening, pass_closing}
-use borrow.Author.Rules.{rules}
 use Rattle.relative_motion.proofs.approach.passing_from.Goals as goal
 
 pub returns-then-relative_speed : goal.returns-then-relative_speed

@@ -1,5 +1,4 @@
 use Rattle.relative_motion.proofs.Approaches.{borne, bearing_refused}
-use borrow.Author.Rules.{rules}
 use Rattle.relative_motion.proofs.approach.relative_bearing_of.Goals as goal
 
 pub returns-in-Accepted : goal.returns-in-Accepted

@@ -1,6 +1,5 @@
 use mathlib.Core.Path.{sym, ap, ◌∙◌}
 use Rattle.relative_motion.specs.Approach.{time_in, time_to_go}
-use borrow.Author.Rules.{rules}
 use Rattle.relative_motion.proofs.approach.time_to_go.Goals as goal
 
 pub returns-in-Of : goal.returns-in-Of

@@ -1,5 +1,4 @@
 use Rattle.arguments.proofs.Checks.{two_checks}
-use borrow.Author.Rules.{rules}
 use Rattle.situation.proofs.check.check_config.Goals as goal
 
 pub returns : goal.returns

@@ -1,5 +1,4 @@
 use Rattle.situation.proofs.Checked.{party_checked}
-use borrow.Author.Rules.{rules}
 use Rattle.situation.proofs.check.check_party.Goals as goal
 
 pub returns : goal.returns

@@ -1,5 +1,4 @@
 use Rattle.situation.proofs.Checked.{unknown, known}
-use borrow.Author.Rules.{rules}
 use Rattle.situation.proofs.check.check_perhaps.Goals as goal
 
 pub returns-in-Unknown : goal.returns-in-Unknown

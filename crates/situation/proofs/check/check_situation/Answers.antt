@@ -1,5 +1,4 @@
 use Rattle.situation.proofs.Checked.{situation_checked}
-use borrow.Author.Rules.{rules}
 use Rattle.situation.proofs.check.check_situation.Goals as goal
 
 pub returns : goal.returns

@@ -1,5 +1,4 @@
 use Rattle.situation.specs.Arguments.{is_width}
-use borrow.Author.Rules.{rules}
 use Rattle.situation.proofs.check.is_width.Goals as goal
 
 pub returns : goal.returns

@@ -1,7 +1,6 @@
 use mathlib.Core.Path.{refl}
 use native.Mathlib.Omega.{arith}
 use Rattle.text.proofs.Digits.{decimal_is}
-use borrow.Author.Rules.{rules}
 use Rattle.text.proofs.Text.number.Goals as goal
 
 pub returns : goal.returns

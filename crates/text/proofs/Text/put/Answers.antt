@@ -1,9 +1,6 @@
-use Prim.Native.Nat.{◌-◌}
 use native.Mathlib.Omega.{arith}
 use mathlib.Core.Path.{refl}
-use lib.ListN.{length, length-map}
-use Rattle.text.specs.Text.{shown}
-use Rattle.text.proofs.Appending.{Copying, copied_one, copied_all, no_room}
+use Rattle.text.proofs.Appending.{copied_one, copied_all, no_room}
 use Rattle.text.proofs.Text.put.Goals as goal
 
 pub loop-i-init : goal.loop-i-init

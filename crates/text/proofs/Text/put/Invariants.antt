@@ -1,9 +1,7 @@
 use Prim.Native.Nat.{◌-◌}
-use native.Mathlib.Omega.{arith}
-use mathlib.Core.Path.{refl}
-use lib.ListN.{length, length-map}
+use lib.ListN.{length}
 use Rattle.text.specs.Text.{shown}
-use Rattle.text.proofs.Appending.{Copying, copied_one, copied_all, no_room}
+use Rattle.text.proofs.Appending.{Copying}
 use Rattle.text.proofs.Text.put.Given as goal
 
 abbrev pub invariant-loop-i : goal.invariant-loop-i

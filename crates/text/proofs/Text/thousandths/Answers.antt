@@ -1,7 +1,5 @@
-use mathlib.Core.Path.{refl}
 use Rattle.text.specs.Decimal.{three_decimals}
 use Rattle.text.proofs.Appending.{then}
-use borrow.Author.Rules.{rules}
 use Rattle.text.proofs.Text.thousandths.Goals as goal
 
 pub returns : goal.returns

@@ -1,4 +1,4 @@
-use Rattle.std.proofs.Common.{pos, ap, rules}
+use Rattle.std.proofs.Common.{pos, ap}
 use lib.Ieee.{binary64, add, div, of_int}
 use Rattle.time.specs.Clock.{hours_of, billion, seconds_per_hour}
 use Rattle.time.proofs.Duration.hours.Goals as goal

@@ -1,5 +1,4 @@
 use Rattle.time.proofs.Branches.{longer, not_longer}
-use Rattle.std.proofs.Common.{rules}
 use Rattle.time.proofs.Duration.is_accepted.Goals as goal
 
 pub returns-then-is_before : goal.returns-then-is_before

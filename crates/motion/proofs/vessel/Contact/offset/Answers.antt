@@ -1,5 +1,4 @@
 use Rattle.motion.specs.Vessel.{offset}
-use borrow.Author.Rules.{rules}
 use Rattle.motion.proofs.vessel.Contact.offset.Goals as goal
 
 pub returns : goal.returns

@@ -1,6 +1,5 @@
 use mathlib.Core.Path.{refl}
 use Rattle.motion.specs.Vessel.{from_velocity}
-use borrow.Author.Rules.{rules}
 use Rattle.motion.proofs.vessel.Vessel.from_velocity.Goals as goal
 
 pub returns : goal.returns

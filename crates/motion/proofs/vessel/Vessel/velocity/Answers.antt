@@ -1,5 +1,4 @@
 use Rattle.motion.specs.Vessel.{velocity}
-use borrow.Author.Rules.{rules}
 use Rattle.motion.proofs.vessel.Vessel.velocity.Goals as goal
 
 pub returns : goal.returns

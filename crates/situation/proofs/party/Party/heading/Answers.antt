@@ -1,6 +1,5 @@
 use Rattle.situation.specs.Situation.{heading, or_else}
 use mathlib.Core.Path.{ap, sym}
-use borrow.Author.Rules.{rules}
 use Rattle.situation.proofs.party.Party.heading.Goals as goal
 
 pub returns-in-Unknown : goal.returns-in-Unknown
