@@ -1,12 +1,13 @@
-// Replays the Rust's answers. Each record of standard input is three little-endian words: the function's number, x and y, floats as
-// bit patterns. For each the program writes the answer, as sixteen hexadecimal digits on a line; the file `stdout` has what
-// the Rust answers. How the records are made is said in docs/COMPARISON.md.
+// Replays the Rust's answers. Each record of standard input is three little-endian words: the
+// function's number, x and y, floats as bit patterns. For each the program writes the answer, as
+// sixteen hexadecimal digits on a line; the file `stdout` has what the Rust answers. How the
+// records are made is said in docs/COMPARISON.md.
 #![tactic(auto)]
 
 ghost use Rattle.std.specs.Prelude.{◌≤◌, ◌<◌};
 
 use domains::Real;
-use libc::{STDIN_FILENO, STDOUT_FILENO};
+use std::io::{self, ErrorKind, Read};
 use time::{Duration, TimeAnswer};
 
 // The bit pattern that stands for every NaN.
@@ -139,23 +140,27 @@ fn answer(which: u64, a: u64, b: u64) -> u64 {
     other(which, a, b)
 }
 
-// Answers one record, and whether there was one.
-fn replay() -> bool {
+// Answers one record, and whether there was one: what is less than a record ends the input.
+fn replay(rt: &impl Print, input: &mut impl Read) -> io::Result<bool> {
     let mut record = [0u8; 24];
-    let got = io::read_full(STDIN_FILENO, &mut record);
-    if got < 24 {
-        return false;
+    match input.read_exact(&mut record) {
+        Ok(()) => {}
+        Err(error) if error.kind() == ErrorKind::UnexpectedEof => return Ok(false),
+        Err(error) => return Err(error),
     }
     let which = word(&record, 0);
     let a = word(&record, 8);
     let b = word(&record, 16);
-    io::print_hex(STDOUT_FILENO, answer(which, a, b), 16);
-    io::write_all(STDOUT_FILENO, b"\n")
+    println!(rt; "{:016x}", answer(which, a, b))?;
+    Ok(true)
 }
 
-fn main() {
-    let mut turns: u64 = 1000000;
-    while turns > 0 && replay() {
-        turns -= 1;
+fn main(rt: HostRuntime) -> io::Result<()> {
+    let mut input = rt.stdin();
+    for _ in 0..1000000 {
+        if !replay(&rt, &mut input)? {
+            break;
+        }
     }
+    Ok(())
 }

@@ -1,48 +1,58 @@
-// The program `encounter` (document 01, 'Encounter sheet and its program'): reads an encounter sheet from standard input and prints the
-// report on it. What it prints is `report::report` of what it read; it reads one byte more than the largest sheet has, so that a longer
-// input is seen to be too long.
+// The program `encounter`: reads an encounter sheet from standard input and prints the report on it
+// (docs/SHEET.md). What it prints is `report::report` of what it read; it reads one byte more than
+// the largest sheet has, so that a longer input is seen to be too long.
 #![tactic(auto)]
 
-ghost use Rattle.std.specs.Prelude.{◌≤◌, length};
+ghost use Rattle.std.specs.Prelude.{◌≡◌, IfOk, IfSome, OnOk, IsErrOf, take};
+ghost use Rattle.std.specs.Io.KnownBytes.{Appends};
+ghost use Rattle.std.specs.declared.io.Error.{Error};
+ghost use Rattle.report.specs.Report.{report};
 
-use libc::{STDIN_FILENO, STDOUT_FILENO};
+use std::alloc::Global;
+use std::io::{self, Read, Write};
+use thiserror::Error;
 
-// Reads until buf is full or the input ends, and answers how many bytes it read; one more than buf has room for if a read fails, so that a
-// part of a sheet is never taken for a sheet.
-fn read_sheet(buf: &mut [u8]) -> usize {
-    let room = buf.len();
-    let mut done: usize = 0;
-    while done < room {
-        let rest = &mut buf[done..];
-        let got = libc::read(STDIN_FILENO, rest);
-        let more = io::count(got, rest);
-        if got < 0 {
-            return room + 1;
-        }
-        if more == 0 {
-            return done;
-        }
-        done += more;
-    }
-    done
+// Which of the program's streams failed, and how.
+#[derive(Debug, Drop, Error)]
+enum Failure {
+    #[error("standard input: {0}")]
+    Input(io::Error),
+    #[error("standard output: {0}")]
+    Output(io::Error),
 }
 
-fn print_report(sheet: &[u8]) {
+// Reads until it has one byte more than the largest sheet or the input ends. If a read fails, so
+// does this, so that a part of a sheet is never taken for a sheet.
+fn read_sheet<R: Read + Drop>(alloc: Global, input: R) -> io::Result<Vec<u8>>
+    ensures { IfOk result (λ v. IfSome (R.remaining input) (λ s. v.items ≡ take 4097 s)) }
+{
+    let mut sheet = Vec::new(alloc);
+    input.take(4097).read_to_end(&mut sheet)?;
+    Ok(sheet)
+}
+
+fn print_report<W: Write>(output: &mut W, sheet: &[u8]) -> io::Result<()>
+    ensures { OnOk result
+        (Appends (W.contents output.old) (W.contents output.new) (report sheet.now)) }
+{
     let t = report::report(sheet);
     let bytes = t.bytes;
     let n = t.size();
-    if io::write_all(STDOUT_FILENO, &bytes[..n]) {
-        return;
-    }
-    os::fail(b"standard output");
+    output.write_all(&bytes[..n])
 }
 
-fn main() {
-    let mut sheet = [0u8; 4097];
-    let n = read_sheet(&mut sheet);
-    if n > 4097 {
-        os::fail(b"standard input");
-        return;
-    }
-    print_report(&sheet[..n]);
+// The program, on any input and output: all that it prints is the report on what it read, and
+// nothing where a read failed.
+fn answer<R: Read + Drop, W: Write>(alloc: Global, input: R, output: &mut W) -> Result<(), Failure>
+    ensures printed { OnOk result (IfSome (R.remaining input)
+        (λ s. Appends (W.contents output.old) (W.contents output.new) (report (take 4097 s)))) }
+    ensures unread { (e : Error) → IsErrOf result (Failure.Input e) → output.new ≡ output.old }
+{
+    let sheet = read_sheet(alloc, input).map_err(Failure::Input)?;
+    print_report(output, &sheet).map_err(Failure::Output)
+}
+
+fn main(rt: HostRuntime) -> anyhow::Result<()> {
+    answer(rt.alloc(), rt.stdin(), &mut rt.stdout())?;
+    Ok(())
 }

@@ -1,12 +1,13 @@
-// Replays the Rust's answers on relative motion, rulings, assessment and avoidance. Each record of standard input is sixteen little-endian words: the
-// function's number, which part of its answer, and the arguments, floats as bit patterns. For each the program writes that part, as
-// sixteen hexadecimal digits on a line; the file `stdout` has what the Rust answers. How the records are made is said in
-// docs/COMPARISON.md.
+// Replays the Rust's answers on relative motion, rulings, assessment and avoidance. Each record of
+// standard input is sixteen little-endian words: the function's number, which part of its answer,
+// and the arguments, floats as bit patterns. For each the program writes that part, as sixteen
+// hexadecimal digits on a line; the file `stdout` has what the Rust answers. How the records are
+// made is said in docs/COMPARISON.md.
 #![tactic(auto)]
 
 ghost use Rattle.std.specs.Prelude.{◌≤◌, ◌<◌};
 
-use libc::{STDIN_FILENO, STDOUT_FILENO};
+use std::io::{self, ErrorKind, Read};
 
 fn wide(b: u8) -> u64
     ensures { result < 256 }
@@ -127,20 +128,24 @@ fn answer(record: &[u8; 128]) -> u64 {
     }
 }
 
-// Answers one record, and whether there was one.
-fn replay() -> bool {
+// Answers one record, and whether there was one: what is less than a record ends the input.
+fn replay(rt: &impl Print, input: &mut impl Read) -> io::Result<bool> {
     let mut record = [0u8; 128];
-    let got = io::read_full(STDIN_FILENO, &mut record);
-    if got < 128 {
-        return false;
+    match input.read_exact(&mut record) {
+        Ok(()) => {}
+        Err(error) if error.kind() == ErrorKind::UnexpectedEof => return Ok(false),
+        Err(error) => return Err(error),
     }
-    io::print_hex(STDOUT_FILENO, answer(&record), 16);
-    io::write_all(STDOUT_FILENO, b"\n")
+    println!(rt; "{:016x}", answer(&record))?;
+    Ok(true)
 }
 
-fn main() {
-    let mut turns: u64 = 1000000;
-    while turns > 0 && replay() {
-        turns -= 1;
+fn main(rt: HostRuntime) -> io::Result<()> {
+    let mut input = rt.stdin();
+    for _ in 0..1000000 {
+        if !replay(&rt, &mut input)? {
+            break;
+        }
     }
+    Ok(())
 }

@@ -1,11 +1,13 @@
-// Replays reports. Each line of standard input is a sheet, two hexadecimal digits for each byte; for each the program writes the report on it
-// and an empty line. The file `stdout` has what the oracle's own reading and printing gives. How both are made is said in
-// docs/COMPARISON.md.
+// Replays reports. Each line of standard input is a sheet, two hexadecimal digits for each byte;
+// for each the program writes the report on it and an empty line. The file `stdout` has what the
+// oracle's own reading and printing gives. How both are made is said in docs/COMPARISON.md.
 #![tactic(auto)]
 
-ghost use Rattle.std.specs.Prelude.{◌≤◌, length};
+ghost use Rattle.std.specs.Prelude.{◌≤◌, ◌++◌, ◌∷◌, [], OnOk, length};
+ghost use Rattle.std.specs.Io.KnownBytes.{Appends};
+ghost use Rattle.report.specs.Report.{report};
 
-use libc::{STDIN_FILENO, STDOUT_FILENO};
+use std::io::{self, Read, Write};
 
 // Room for a sheet that is too long.
 const ROOM: usize = 4200;
@@ -20,12 +22,16 @@ fn digit(b: u8) -> u8
     b % 16
 }
 
-fn print_report(sheet: &[u8]) {
+// Prints the report on a sheet and an empty line.
+fn print_report<W: Write>(output: &mut W, sheet: &[u8]) -> io::Result<()>
+    ensures { OnOk result
+        (Appends (W.contents output.old) (W.contents output.new) (report sheet.now ++ 10 ∷ [])) }
+{
     let t = report::report(sheet);
     let bytes = t.bytes;
     let n = t.size();
-    io::write_all(STDOUT_FILENO, &bytes[..n]);
-    io::write_all(STDOUT_FILENO, b"\n");
+    output.write_all(&bytes[..n])?;
+    output.write_all(b"\n")
 }
 
 // A number of bytes, at most the room.
@@ -39,7 +45,7 @@ fn held(n: usize) -> usize
 }
 
 // Prints the report on the sheet that a line of digits spells.
-fn print_line(line: &[u8]) {
+fn print_line<W: Write>(output: &mut W, line: &[u8]) -> io::Result<()> {
     let mut sheet = [0u8; ROOM];
     let n = held(line.len() / 2);
     let mut i: usize = 0;
@@ -49,7 +55,7 @@ fn print_line(line: &[u8]) {
         sheet[i] = digit(high) * 16 + digit(low);
         i += 1;
     }
-    print_report(&sheet[..n]);
+    print_report(output, &sheet[..n])
 }
 
 // Where the line that begins at a place ends.
@@ -68,17 +74,18 @@ fn line_end(input: &[u8], from: usize) -> usize
 }
 
 // The sheets of the input, one after the other.
-fn replay(input: &[u8]) {
+fn replay<W: Write>(output: &mut W, input: &[u8]) -> io::Result<()> {
     let mut from: usize = 0;
     while from < input.len() {
         let end = line_end(input, from);
-        print_line(&input[from..end]);
+        print_line(output, &input[from..end])?;
         from = end + 1;
     }
+    Ok(())
 }
 
-fn main() {
-    let mut input = [0u8; 262144];
-    let n = io::read_full(STDIN_FILENO, &mut input);
-    replay(&input[..n]);
+fn main(rt: HostRuntime) -> io::Result<()> {
+    let mut input = Vec::new(rt.alloc());
+    rt.stdin().read_to_end(&mut input)?;
+    replay(&mut rt.stdout(), &input)
 }
