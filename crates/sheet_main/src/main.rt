@@ -3,7 +3,7 @@
 // oracle's own reading and printing gives. How both are made is said in docs/COMPARISON.md.
 #![tactic(auto)]
 
-ghost use Rattle.std.specs.Prelude.{◌≤◌, ◌++◌, ◌∷◌, [], OnOk, length};
+ghost use Rattle.std.specs.Prelude.{◌≤◌, ◌++◌, ◌∷◌, [], IfOk, OnOk, length};
 ghost use Rattle.std.specs.Io.KnownBytes.{Appends};
 ghost use Rattle.report.specs.Report.{report};
 
@@ -84,8 +84,24 @@ fn replay<W: Write>(output: &mut W, input: &[u8]) -> io::Result<()> {
     Ok(())
 }
 
+// Reads until `buf` is full or the input ends, and answers how many bytes it read.
+fn read_full<R: Read>(input: &mut R, buf: &mut [u8]) -> io::Result<usize>
+    ensures { IfOk result (λ n. n ≤ length buf.new) }
+{
+    let room = buf.len();
+    let mut done: usize = 0;
+    while done < room {
+        let more = input.read(&mut buf[done..])?;
+        if more == 0 {
+            return Ok(done);
+        }
+        done += more;
+    }
+    Ok(done)
+}
+
 fn main(rt: HostRuntime) -> io::Result<()> {
-    let mut input = Vec::new(rt.alloc());
-    rt.stdin().read_to_end(&mut input)?;
-    replay(&mut rt.stdout(), &input)
+    let mut input = [0u8; 262144];
+    let n = read_full(&mut rt.stdin(), &mut input)?;
+    replay(&mut rt.stdout(), &input[..n])
 }
