@@ -5,7 +5,7 @@
 ghost use Rattle.std.specs.Prelude.{◌≡◌};
 ghost use Rattle.angle.specs.Fold as Fold;
 
-const FULL_TURN: f64 = 360.0;
+use turns::FULL_TURN;
 
 const HALF_TURN: f64 = 180.0;
 
@@ -15,20 +15,14 @@ pub fn wrap360(degrees: f64) -> f64
 {
     let rest = turns::remainder(degrees);
     let turned = not_below_zero(rest);
-    if turned == FULL_TURN {
-        return 0.0;
-    }
-    turned
+    if turned == FULL_TURN { 0.0 } else { turned }
 }
 
 // A remainder with a full turn added where it is negative.
 fn not_below_zero(rest: f64) -> f64
     ensures { result ≡ Fold.turned rest }
 {
-    if rest < 0.0 {
-        return rest + FULL_TURN;
-    }
-    rest
+    if rest < 0.0 { rest + FULL_TURN } else { rest }
 }
 
 // The half fold: the same difference of directions, above -180 and at most 180.

@@ -1,25 +1,20 @@
 -- What the code of the search owes: the values at a step, the checks of a step, and that a step that passes its check is the one that the definition names.
 use mathlib.Core.Path.{◌≡◌, refl, sym, ap, ◌∙◌, subst, subst₂}
-use mathlib.Core.Bool.{Bool, true, false, not, true≢false}
+use mathlib.Core.Bool.{Bool, true, false, not}
 use Prim.Native.Nat.{ℕ, ◌+◌, ◌*◌, ◌-◌, ◌^◌, ◌/◌, ◌≤◌, ◌<◌}
-use native.Mathlib.Nat.{mul-le-mul, mul-pos, le_of_lt, le_refl, le_trans, lt_irrefl, div-le_self, sub-le}
+use native.Mathlib.Nat.{le_of_lt, le_refl, le_trans, lt_irrefl, div-le_self, sub-le}
 use native.Mathlib.Omega.{arith}
 use lib.Arith.{lt→nleb}
-use lib.Dec.{T, leb, ltb, ltb→lt, le→leb, lit<}
-use lib.Ieee.{Float, nan, inf, fin, lt, is_nan}
+use lib.Dec.{T, leb, ltb, ltb→lt, le→leb}
 use lib.Ieee.Bits.{is_true, is_false}
 use lib.Ieee.Fits.{and_r}
 use Rattle.series.specs.Taylor.{sine_divisors, cosine_divisors}
 use Rattle.series.specs.Units.{horner, square, sine_units, cosine_units}
 use Rattle.grid.specs.Search.{greatest, up_to, greatest_to, Found}
 use Rattle.grid.specs.Grid.{last_step, sine_step, cosine_step}
-use Rattle.grid.specs.Arcsine.{at_most, arcsine_steps, rest, rest_step, fits_in, upper_steps}
-use Rattle.grid.specs.Arctangent.{not_above, arctangent_steps}
-use Rattle.arcs.specs.Goal.{test, Small, Steady}
-use Rattle.arcs.specs.declared.Goal.{Goal}
-use Rattle.arcs.specs.declared.Goal.TheVariants.{Sine, Rest, Tangent}
-use Rattle.grid.proofs.Searching.{turn, found_is}
-use Rattle.grid.proofs.Lower.{at_most_falls, at_most-zero, arcsine_found}
+use Rattle.grid.specs.Arcsine.{at_most, rest, rest_step, fits_in}
+use Rattle.grid.specs.Arctangent.{not_above}
+use Rattle.grid.proofs.Searching.{turn}
 use Rattle.grid.proofs.Steps as steps
 use Rattle.grid.proofs.Upper.{upper_is, upper_found}
 use Rattle.grid.proofs.Upper as up
@@ -46,13 +41,6 @@ pub under_is : (u w a s c g h : ℕ) → s ≡ sine_step a → c ≡ cosine_step
 unfolding not_above
 under_is u w a s c g h p q x y = cc
 
--- ---- sizes
-pub square-pos : (f : ℕ) → 0 < f → 0 < f * f
-square-pos f h = mul-pos h h
-
-pub square-small : (f : ℕ) → f ≤ 2 ^ 28 → f * f ≤ 2 ^ 56
-square-small f h = mul-le-mul h h
-
 -- ---- the search by halves
 pub too_far : (p : ℕ → Bool) (a : ℕ) → last_step < a → false ≡ up_to last_step p a
 unfolding up_to
@@ -66,11 +54,11 @@ pub begins : (p : ℕ → Bool) → greatest 49 (up_to last_step p) 0 ≡ greate
 unfolding greatest_to
 begins p = refl
 
-pub kept : (p : ℕ → Bool) (f low half B : ℕ) (t : Bool) → 0 < f → half ≡ 2 ^ f → greatest f p low ≡ B → t ≡ p (low + half / 2) → t ≡ true → greatest (f - 1) p (low + half / 2) ≡ B
-kept p f low half B t h e b u v = rw v at (turn f p low half B t h e b u)
+pub kept : (p : ℕ → Bool) (i low half B : ℕ) (t : Bool) → i < 49 → half ≡ 2 ^ (49 - i) → greatest (49 - i) p low ≡ B → t ≡ p (low + half / 2) → t ≡ true → greatest (49 - (i + 1)) p (low + half / 2) ≡ B
+kept p i low half B t h e b u v = rw v at (turn 49 i p low half B t h e b u)
 
-pub passed_over : (p : ℕ → Bool) (f low half B : ℕ) (t : Bool) → 0 < f → half ≡ 2 ^ f → greatest f p low ≡ B → t ≡ p (low + half / 2) → t ≡ false → greatest (f - 1) p low ≡ B
-passed_over p f low half B t h e b u v = rw v at (turn f p low half B t h e b u)
+pub passed_over : (p : ℕ → Bool) (i low half B : ℕ) (t : Bool) → i < 49 → half ≡ 2 ^ (49 - i) → greatest (49 - i) p low ≡ B → t ≡ p (low + half / 2) → t ≡ false → greatest (49 - (i + 1)) p low ≡ B
+passed_over p i low half B t h e b u v = rw v at (turn 49 i p low half B t h e b u)
 
 -- ---- the checks of a step
 pub sine_here : (x a z s : ℕ) → a < last_step → z ≡ 512 * a * (512 * a) / 2 ^ 58 → s ≡ sine_step a → s ≤ x → x - s + 10 ≤ (2 ^ 58 - z / 2) / 2 ^ 49 → Found last_step (at_most x) a
@@ -163,31 +151,6 @@ module _ (a z : ℕ) (ha : a < last_step) (pz : Product (512 * a) (512 * a) z) w
 pub at_last : (p : ℕ → Bool) → T (p last_step) → Found last_step p last_step
 at_last p t = record { within = le_refl last_step; passes = t; next = λ l. absurd (lt_irrefl last_step l) }
 
--- ---- what passes its check is what the definition names
-pub only : (g : Goal) → Small g → Steady g → (A : ℕ) → Found last_step (test g) A → A ≡ greatest_to 49 last_step (test g)
-unfolding upper_steps arctangent_steps
-only (Sine x) s h A r = found_is 49 last_step (at_most x) (at_most_falls x) (at_most-zero x) (lit< tt) A r
-only (Rest e f) s h A r = upper_is e f s.0 h A r
-only (Tangent u w) s h A r = arctangent_is u w h.0 h.1 A r
-
--- and the definition names a step that passes
-pub named : (g : Goal) → Steady g → Found last_step (test g) (greatest_to 49 last_step (test g))
-unfolding upper_steps arctangent_steps arcsine_steps
-named (Sine x) h = arcsine_found x
-named (Rest e f) h = upper_found e f h
-named (Tangent u w) h = arctangent_found u w
-
 pub passes_last : (p : ℕ → Bool) (t : Bool) → t ≡ up_to last_step p last_step → t ≡ true → T (p last_step)
 unfolding up_to
 passes_last p t e h = and_r (leb last_step last_step) (p last_step) (subst T (sym h ∙ e) tt)
-
-pub tangent_within : (u w : ℕ) → greatest_to 49 last_step (not_above u w) ≤ last_step
-unfolding arctangent_steps
-tangent_within u w = (arctangent_found u w).within
-
--- ---- a guess: what is below a number is one
-pub number : (x y : Float) → lt x y ≡ true → T (not (is_nan x))
-unfolding lt is_nan
-number nan y e = absurd (true≢false (sym e))
-number (inf s) y e = tt
-number (fin s m f) y e = tt

@@ -6,9 +6,9 @@
 // 4 * 10^-17 for the arcsine up to a quarter pi, 9 * 10^-17 for the rest.
 ghost use Rattle.std.specs.Prelude.{◌*◌, ◌^◌, ◌≤◌};
 
-// 2^-53 and 2^-54.
-const GRID: f64 = 1.1102230246251565e-16;
+use series::GRID;
 
+// 2^-54.
 const HALF_GRID: f64 = 5.551115123125783e-17;
 
 // An angle from 0 to 8 in steps of 2^-49, cut: half a step less than 8 is added, which leaves the steps in the low digits of a

@@ -1,21 +1,21 @@
 // Arcsine and arctangent by whole numbers: angles in steps of 2^-49, sines and cosines in units of 2^-58.
 //
-// Each is the last step of a grid up to a quarter pi that passes a test. The tests are the three cases of `Goal`; one search
-// serves them all. It starts from a guess in f64 operations, on which nothing rests but the speed: a step that `settled`
-// accepts is the one that the definition names, whatever the guess was, and where it accepts none the grid is halved.
+// Each is the last step of a grid up to a quarter pi that passes a test. The tests are those of the
+// three types of the trait `Goal`; one search serves them all. It starts from a guess in f64
+// operations, on which nothing rests but the speed: a step that `settled` accepts is the one that
+// the definition names, whatever the guess was, and where it accepts none the grid is halved.
 #![tactic(auto)]
 
 mod guess;
 
-ghost use Rattle.std.specs.Prelude.{◌≡◌, true, ◌*◌, ◌/◌, ◌^◌, ◌≤◌, ◌<◌};
+ghost use Rattle.std.specs.Prelude.{◌≡◌, Bool, true, ℕ, ◌*◌, ◌/◌, ◌^◌, ◌≤◌, ◌<◌};
 ghost use Rattle.grid.specs.Search.{up_to, greatest_to, Found};
 ghost use Rattle.grid.specs.Grid.{last_step, sine_step, cosine_step};
 ghost use Rattle.grid.specs.Arcsine.{rest_step, at_most, fits_in, scale, upper_steps, arcsine_units};
 ghost use Rattle.grid.specs.Arctangent.{not_above, arctangent_steps};
-ghost use Rattle.arcs.specs.Goal.{test, Small, Steady};
+ghost use Rattle.arcs.specs.Goal as Goal;
 
-// One, in units: 2^58.
-const ONE: u64 = 288230376151711744;
+use series::ONE;
 
 // The grid's last step, a quarter pi, and its sine in units.
 const LAST: u64 = 442139859501777;
@@ -28,15 +28,59 @@ const STEP: u64 = 562949953421312;
 // Half pi in steps of 2^-52.
 const HALF_PI: u64 = 7074237752028440;
 
-// What is searched for: the last step of the grid ...
+// What is searched for: the last step of the grid that passes a test.
+trait Goal: Copy {
+    ghost test: { Self → ℕ → Bool };
+
+    // The test, once it fails, fails from there on.
+    ghost Steady: { Self → Type 0 };
+
+    // A step to begin from: any will do.
+    fn guess(self) -> u64;
+
+    // Whether a step passes.
+    fn holds(self, a: u64) -> bool
+        requires { a ≤ last_step }
+        ensures { result ≡ test self a };
+
+    // The check of one step: by its own value and the slope there, or, where these are too near to
+    // tell, by the next step's.
+    fn settled(self, a: u64) -> bool
+        requires { a < last_step }
+        ensures { result ≡ true → Found last_step (test self) a };
+
+    // A step that is found is the one that the definition names, and the definition names one.
+    ghost only: { (g : Self) → Steady g → (A : ℕ) → Found last_step (test g) A → A ≡ greatest_to 49 last_step (test g) };
+
+    ghost named: { (g : Self) → Steady g → Found last_step (test g) (greatest_to 49 last_step (test g)) };
+}
+
+// The sine is at most x units.
 #[derive(Clone, Copy)]
-enum Goal {
-    // ... whose sine is at most x units,
-    Sine(u64),
-    // ... whose angle, over f, has a cosine that is at most e units below one,
-    Rest(u64, u64),
-    // ... at which u times the sine is at most w times the cosine.
-    Tangent(u64, u64),
+struct AtMost {
+    x: u64,
+    ghost small: { x ≤ 2 ^ 58 },
+}
+
+// The angle, over f, has a cosine that is at most e units below one.
+#[derive(Clone, Copy)]
+struct FitsIn {
+    e: u64,
+    f: u64,
+    ghost below_one: { e ≤ 2 ^ 58 },
+    ghost positive: { 0 < f },
+    ghost few: { f ≤ 2 ^ 28 },
+    ghost enough: { 2 ^ 54 ≤ e * (f * f) },
+    ghost most: { e * (f * f) ≤ 2 ^ 58 },
+}
+
+// u times the sine is at most w times the cosine.
+#[derive(Clone, Copy)]
+struct NotAbove {
+    u: u64,
+    w: u64,
+    ghost small_u: { u ≤ 2 ^ 58 },
+    ghost small_w: { w ≤ 2 ^ 58 },
 }
 
 // ---- the sine, the cosine and the scaled rest at a step
@@ -62,38 +106,125 @@ fn rest_at(f: u64, a: u64) -> u64
     series::product(z, series::cosine_series(z / (f * f)))
 }
 
-// Whether u times the sine is at most w times the cosine.
-fn under(u: u64, w: u64, a: u64) -> bool
-    requires { (u ≤ 2 ^ 58) × (w ≤ 2 ^ 58) × (a ≤ last_step) }
-    ensures { result ≡ not_above u w a }
-{
-    series::product(u, sine_at(a)) <= series::product(w, cosine_at(a))
+impl Goal for AtMost {
+    ghost test = { λ g. at_most g.x };
+
+    ghost Steady = { λ _. Unit {0} };
+
+    fn guess(self) -> u64 {
+        guess::sine(self.x)
+    }
+
+    fn holds(self, a: u64) -> bool {
+        sine_at(a) <= self.x
+    }
+
+    fn settled(self, a: u64) -> bool {
+        let x = self.x;
+        let r = 512 * a;
+        let z = series::product(r, r);
+        let s = series::product(r, series::sine_series(z));
+        if x < s {
+            return false;
+        }
+        if x - s + 10 <= (ONE - z / 2) / STEP {
+            return true;
+        }
+        x < sine_at(a + 1)
+    }
+
+    ghost only = { λ g _ A r. Goal.at_most_only g.x A r };
+
+    ghost named = { λ g _. Goal.at_most_named g.x };
+}
+
+impl Goal for FitsIn {
+    ghost test = { λ g. fits_in g.e g.f };
+
+    ghost Steady = { λ _. Unit {0} };
+
+    fn guess(self) -> u64 {
+        guess::rest(self.e, self.f)
+    }
+
+    fn holds(self, a: u64) -> bool {
+        let FitsIn { e, f } = self;
+        rest_at(f, a) <= 2 * (e * (f * f))
+    }
+
+    fn settled(self, a: u64) -> bool {
+        let FitsIn { e, f } = self;
+        let twice = 2 * (e * (f * f));
+        let r = 512 * a;
+        let z = series::product(r, r);
+        let y = z / (f * f);
+        let t = series::product(z, series::cosine_series(y));
+        if twice < t {
+            return false;
+        }
+        if twice + 9 <= t + series::product(r, ONE - y / 6) / (STEP / 2) {
+            return true;
+        }
+        twice < rest_at(f, a + 1)
+    }
+
+    ghost only = { λ g _ A r. Goal.fits_in_only g.e g.f g.positive g.enough A r };
+
+    ghost named = { λ g _. Goal.fits_in_named g.e g.f g.enough };
+}
+
+impl Goal for NotAbove {
+    ghost test = { λ g. not_above g.u g.w };
+
+    ghost Steady = { λ g. (2 ^ 57 ≤ g.u) × (g.w ≤ g.u) };
+
+    fn guess(self) -> u64 {
+        guess::tangent(self.u, self.w)
+    }
+
+    fn holds(self, a: u64) -> bool {
+        series::product(self.u, sine_at(a)) <= series::product(self.w, cosine_at(a))
+    }
+
+    fn settled(self, a: u64) -> bool {
+        let NotAbove { u, w } = self;
+        let r = 512 * a;
+        let z = series::product(r, r);
+        let s = series::product(r, series::sine_series(z));
+        let c = ONE - series::product(z, series::cosine_series(z)) / 2;
+        let g = series::product(u, s);
+        let h = series::product(w, c);
+        if h < g {
+            return false;
+        }
+        let slope = series::product(u, ONE - z / 2) + series::product(w, r - r / 6);
+        if h + 17 <= g + slope / STEP {
+            return true;
+        }
+        !self.holds(a + 1)
+    }
+
+    ghost only = { λ g h A r. Goal.not_above_only g.u g.w h.0 h.1 A r };
+
+    ghost named = { λ g _. Goal.not_above_named g.u g.w };
 }
 
 // ---- the search by halves
-fn passes(goal: Goal, a: u64) -> bool
-    requires { Small goal }
-    ensures { result ≡ up_to last_step (test goal) a }
+fn passes<G: Goal>(goal: G, a: u64) -> bool
+    ensures { result ≡ up_to last_step (G.test goal) a }
 {
     if LAST < a {
         return false;
     }
-    match goal {
-        Goal::Sine(x) => sine_at(a) <= x,
-        Goal::Rest(e, f) => rest_at(f, a) <= 2 * (e * (f * f)),
-        Goal::Tangent(u, w) => under(u, w, a),
-    }
+    goal.holds(a)
 }
 
-fn by_halves(goal: Goal) -> u64
-    requires { Small goal }
-    ensures { result ≡ greatest_to 49 last_step (test goal) }
+fn by_halves<G: Goal>(goal: G) -> u64
+    ensures { result ≡ greatest_to 49 last_step (G.test goal) }
 {
     let mut low: u64 = 0;
     let mut half: u64 = STEP;
-    let mut left: u64 = 49;
-    while 0 < left {
-        left -= 1;
+    for _ in 0..49u64 {
         half = half / 2;
         if passes(goal, low + half) {
             low += half;
@@ -102,88 +233,23 @@ fn by_halves(goal: Goal) -> u64
     low
 }
 
-// ---- the check of one step: by its own value and the slope there, or, where these are too near to tell, by the next step's
-fn settled_sine(x: u64, a: u64) -> bool
-    requires { (x ≤ 2 ^ 58) × (a < last_step) }
-    ensures { result ≡ true → Found last_step (at_most x) a }
-{
-    let r = 512 * a;
-    let z = series::product(r, r);
-    let s = series::product(r, series::sine_series(z));
-    if x < s {
-        return false;
-    }
-    if x - s + 10 <= (ONE - z / 2) / STEP {
-        return true;
-    }
-    x < sine_at(a + 1)
-}
-
-fn settled_rest(e: u64, f: u64, a: u64) -> bool
-    requires { (0 < f) × (f ≤ 2 ^ 28) × (e * (f * f) ≤ 2 ^ 58) × (a < last_step) }
-    ensures { result ≡ true → Found last_step (fits_in e f) a }
-{
-    let twice = 2 * (e * (f * f));
-    let r = 512 * a;
-    let z = series::product(r, r);
-    let y = z / (f * f);
-    let t = series::product(z, series::cosine_series(y));
-    if twice < t {
-        return false;
-    }
-    if twice + 9 <= t + series::product(r, ONE - y / 6) / (STEP / 2) {
-        return true;
-    }
-    twice < rest_at(f, a + 1)
-}
-
-fn settled_tangent(u: u64, w: u64, a: u64) -> bool
-    requires { (u ≤ 2 ^ 58) × (w ≤ 2 ^ 58) × (a < last_step) }
-    ensures { result ≡ true → Found last_step (not_above u w) a }
-{
-    let r = 512 * a;
-    let z = series::product(r, r);
-    let s = series::product(r, series::sine_series(z));
-    let c = ONE - series::product(z, series::cosine_series(z)) / 2;
-    let g = series::product(u, s);
-    let h = series::product(w, c);
-    if h < g {
-        return false;
-    }
-    let slope = series::product(u, ONE - z / 2) + series::product(w, r - r / 6);
-    if h + 17 <= g + slope / STEP {
-        return true;
-    }
-    !under(u, w, a + 1)
-}
-
-fn settled(goal: Goal, a: u64) -> bool
-    requires { Small goal × (a < last_step) }
-    ensures { result ≡ true → Found last_step (test goal) a }
-{
-    match goal {
-        Goal::Sine(x) => settled_sine(x, a),
-        Goal::Rest(e, f) => settled_rest(e, f, a),
-        Goal::Tangent(u, w) => settled_tangent(u, w, a),
-    }
-}
-
 // ---- the search from a guess
-fn search(goal: Goal, guess: u64) -> u64
-    requires { Small goal × Steady goal }
-    ensures { (result ≡ greatest_to 49 last_step (test goal)) × (result ≤ last_step) }
+fn search<G: Goal>(goal: G) -> u64
+    requires { G.Steady goal }
+    ensures { (result ≡ greatest_to 49 last_step (G.test goal)) × (result ≤ last_step) }
 {
+    let guess = goal.guess();
     if guess < LAST {
-        if settled(goal, guess) {
+        if goal.settled(guess) {
             return guess;
         }
         if guess + 1 < LAST {
-            if settled(goal, guess + 1) {
+            if goal.settled(guess + 1) {
                 return guess + 1;
             }
         }
         if 0 < guess {
-            if settled(goal, guess - 1) {
+            if goal.settled(guess - 1) {
                 return guess - 1;
             }
         }
@@ -202,14 +268,12 @@ fn scale_of(e: u64) -> u64
 {
     let mut f: u64 = 1;
     let mut scaled = e;
-    let mut left: u64 = 27;
-    while 0 < left {
+    for _ in 0..27u64 {
         if ONE / 16 <= scaled {
             return f;
         }
         f = 2 * f;
         scaled = 4 * scaled;
-        left -= 1;
     }
     f
 }
@@ -220,7 +284,7 @@ fn rest(e: u64) -> u64
     ensures { (result ≡ 8 * upper_steps e (scale e) / scale e) × (result ≤ 8 * last_step) }
 {
     let f = scale_of(e);
-    8 * search(Goal::Rest(e, f), guess::rest(e, f)) / f
+    8 * search(FitsIn { e, f }) / f
 }
 
 // The arcsine of x units, in steps of 2^-52.
@@ -228,7 +292,7 @@ pub fn arcsine(x: u64) -> u64
     ensures { (result ≡ arcsine_units x) × (result < 2 ^ 53) }
 {
     if x < SINE_OF_LAST {
-        return 8 * search(Goal::Sine(x), guess::sine(x));
+        return 8 * search(AtMost { x });
     }
     if x < ONE {
         return HALF_PI - rest(ONE - x);
@@ -247,12 +311,12 @@ pub fn arctangent(u: u64, w: u64) -> u64
     if ONE < w {
         return 0;
     }
-    let goal = Goal::Tangent(u, w);
+    let goal = NotAbove { u, w };
     if u < ONE / 2 {
         return by_halves(goal);
     }
     if u < w {
         return by_halves(goal);
     }
-    search(goal, guess::tangent(u, w))
+    search(goal)
 }

@@ -1,30 +1,51 @@
--- What the code of checks owes: one check, two checks, one list after another, an encounter's.
-use mathlib.Core.Path.{◌≡◌, refl, ap, ◌∙◌}
-use mathlib.Core.Bool.{Bool, cond}
-use mathlib.Core.List.{List, [], ◌∷◌, ◌++◌}
+-- What the code of checks owes: a list of checks is one part of it after another.
+use Rattle.std.specs.Prelude.{◌≡◌, refl, List, [], ◌∷◌, ◌++◌, Bool, cond, true, false, Ok, Err}
+use Rattle.std.specs.Result.{IsErrAnd, result_and}
+use Rattle.std.proofs.lemmas.Result.{err_from_is_err_and}
+use Rattle.std.specs.declared.result.Result.{Result}
 use Rattle.elementary.specs.declared.error.Refusal.{Refusal}
-use Rattle.arguments.specs.declared.Verdict.{Verdict}
-use Rattle.arguments.specs.declared.Verdict.TheVariants.{Refused}
-use Rattle.motion.specs.declared.vessel.Vessel.{Vessel}
-use Rattle.motion.specs.declared.vessel.Contact.{Contact}
-use Rattle.arguments.specs.Check.{Check, check, verdict, vessel_checks, contact_checks, encounter_checks}
-
-module _ (rest r : Verdict) (why : Refusal) (b good : Bool) (is_b : b ≡ good) where
-  pub one-check : r ≡ cond b rest (Refused why) → r ≡ verdict (check good why ∷ []) rest
-  unfolding verdict
-  one-check e = e ∙ ap (λ b. cond b rest (Refused why)) is_b
-
-  -- the check before it
-  pub two_checks : (s : Verdict) (first : Refusal) (c fine : Bool) → c ≡ fine → r ≡ cond b rest (Refused why) → s ≡ cond c r (Refused first) → s ≡ verdict (check fine first ∷ check good why ∷ []) rest
-  unfolding verdict
-  two_checks s first c fine is_c e e' = e' ∙ ap (λ c. cond c r (Refused first)) is_c ∙ ap (λ r. cond fine r (Refused first)) (one-check e)
+use Rattle.arguments.specs.Check.{Check, verdict, checked}
 
 -- the verdict on a list is the one on its beginning, with what the rest says after it
-pub verdict_joined : (a b : List Check) (rest : Verdict) → verdict (a ++ b) rest ≡ verdict a (verdict b rest)
+pub verdict_joined : (a b : List Check) (rest : Result (Unit {0}) Refusal) → verdict (a ++ b) rest ≡ verdict a (verdict b rest)
 unfolding verdict
 verdict_joined [] b rest = refl
 verdict_joined (c ∷ a) b rest = rw (verdict_joined a b rest) refl
 
-pub encounter_checked : (own : Vessel) (contact : Contact) (target : Vessel) (rest t c r : Verdict) → t ≡ verdict (vessel_checks target) rest → c ≡ verdict (contact_checks contact) t → r ≡ verdict (vessel_checks own) c → r ≡ verdict (encounter_checks own contact target) rest
-unfolding verdict encounter_checks
-encounter_checked own contact target rest t c r is-t is_c is-r = is-r ∙ ap (verdict (vessel_checks own)) (is_c ∙ ap (verdict (contact_checks contact)) is-t)
+-- what refuses at the beginning of a list refuses the list, whatever the rest says
+pub refused : (a b : List Check) (rest : Result (Unit {0}) Refusal) (e : Refusal) → Err e ≡ checked a → Err e ≡ verdict (a ++ b) rest
+unfolding verdict
+refused [] b rest e h = cc
+refused (c ∷ a) b rest e h = go c.good (refused a b rest e) h
+  where
+    go : (good : Bool) → (Err e ≡ checked a → Err e ≡ verdict (a ++ b) rest) → Err e ≡ cond good (checked a) (Err c.why) → Err e ≡ cond good (verdict (a ++ b) rest) (Err c.why)
+    go true after k = after k
+    go false after k = k
+
+-- where the beginning is accepted, the rest of the list decides
+pub accepted : (a b : List Check) (r rest : Result (Unit {0}) Refusal) → Ok tt ≡ checked a → r ≡ verdict b rest → r ≡ verdict (a ++ b) rest
+unfolding verdict
+accepted [] b r rest h e = e
+accepted (c ∷ a) b r rest h e = go c.good (λ k. accepted a b r rest k e) h
+  where
+    go : (good : Bool) → (Ok tt ≡ checked a → r ≡ verdict (a ++ b) rest) → Ok tt ≡ cond good (checked a) (Err c.why) → r ≡ cond good (verdict (a ++ b) rest) (Err c.why)
+    go true after k = after k
+    go false after k = cc
+
+-- what a function answers where it hands a refusal on
+pub handed_on : {T : Type 0} (r : Result T Refusal) (e : Refusal) → IsErrAnd r (λ y. y ≡ e) → r ≡ Err e
+handed_on r e h = let p = err_from_is_err_and r h in rw p.1 (rw p.2 refl)
+
+-- the same where the beginning of a list of checks refuses
+pub refused_by : (a b : List Check) (rest r : Result (Unit {0}) Refusal) (e : Refusal) → IsErrAnd r (λ y. y ≡ e) → Err e ≡ checked a → r ≡ verdict (a ++ b) rest
+refused_by a b rest r e h k = rw (handed_on r e h) (refused a b rest e k)
+
+-- a list of checks, and what is said after it
+pub after : (a : List Check) (rest : Result (Unit {0}) Refusal) → result_and (checked a) rest ≡ verdict a rest
+unfolding verdict
+after [] rest = refl
+after (c ∷ a) rest = go c.good (after a rest)
+  where
+    go : (good : Bool) → result_and (checked a) rest ≡ verdict a rest → result_and (cond good (checked a) (Err c.why)) rest ≡ cond good (verdict a rest) (Err c.why)
+    go true e = e
+    go false e = refl

@@ -1,2 +1,3 @@
 -- Laws on checks.
 pub mod Checks
+pub mod Lists

@@ -1,12 +1,11 @@
 -- The checks of arguments (01, 'The answers by number': 'arguments are checked in the order … own, contact (first plot, then second), target, …, inside one in field order; … the first bad one decides; with none bad they are accepted').
-use Rattle.std.specs.Prelude.{Bool, ◌&&◌, cond, List, [], ◌∷◌, ◌++◌, Float}
+use Rattle.std.specs.Prelude.{Bool, ◌&&◌, cond, List, [], ◌∷◌, ◌++◌, Float, Ok, Err}
 use Rattle.std.specs.Float.{binary64}
 use Rattle.std.specs.Float.Ieee.{lt, le, of_bits}
 use Rattle.elementary.specs.declared.error.Refusal.{Refusal}
 use Rattle.elementary.specs.declared.error.Refusal.TheVariants as Why
 use Rattle.elementary.specs.Range.{in_range}
-use Rattle.arguments.specs.declared.Verdict.{Verdict}
-use Rattle.arguments.specs.declared.Verdict.TheVariants.{Refused}
+use Rattle.std.specs.declared.result.Result.{Result}
 use Rattle.motion.specs.declared.units.Direction.{Direction}
 use Rattle.motion.specs.declared.units.Speed.{Speed}
 use Rattle.motion.specs.declared.units.Distance.{Distance}
@@ -22,9 +21,13 @@ abbrev pub check : Bool → Refusal → Check
 check good why = record { good = good; why = why }
 
 -- the first bad one decides; with none bad, what the checks after these say
-unfoldable pub verdict : List Check → Verdict → Verdict
+unfoldable pub verdict : List Check → Result (Unit {0}) Refusal → Result (Unit {0}) Refusal
 verdict [] rest = rest
-verdict (c ∷ cs) rest = cond c.good (verdict cs rest) (Refused c.why)
+verdict (c ∷ cs) rest = cond c.good (verdict cs rest) (Err c.why)
+
+-- a list of checks by itself
+abbrev pub checked : List Check → Result (Unit {0}) Refusal
+checked cs = verdict cs (Ok tt)
 
 -- 0, 360, 1,000 and 10,000
 abbrev pub zero : Float

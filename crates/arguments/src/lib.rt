@@ -1,19 +1,12 @@
 // The checks of arguments, in document 01's order.
 #![tactic(auto)]
 
-ghost use Rattle.std.specs.Prelude.{◌≡◌, cond};
+ghost use Rattle.std.specs.Prelude.{◌≡◌, [], ◌∷◌};
 ghost use Rattle.arguments.specs.Check as Spec;
 
 use elementary::error::Refusal;
 use motion::units::{Direction, Distance, Speed};
 use motion::vessel::{Contact, Vessel};
-
-// What the checks say of the arguments.
-#[derive(Clone, Copy)]
-pub enum Verdict {
-    Accepted,
-    Refused(Refusal),
-}
 
 // From 0 up to but not including 360.
 pub fn is_direction(d: Direction) -> bool
@@ -36,48 +29,41 @@ pub fn is_distance(d: Distance) -> bool
     elementary::error::ensure_range(d.0, 0.0, 10000.0)
 }
 
-// One check, and what the checks after it say.
-pub fn unless(good: bool, why: Refusal, rest: Verdict) -> Verdict
-    ensures { result ≡ cond good rest (Verdict.Refused why) }
+// Whether a check is good, and the refusal if it is not.
+pub fn ensure(good: bool, why: Refusal) -> Result<(), Refusal>
+    ensures { result ≡ Spec.checked (Spec.check good why ∷ []) }
 {
-    if good {
-        return rest;
-    }
-    Verdict::Refused(why)
+    if good { Ok(()) } else { Err(why) }
 }
 
-// The course (number 1), the speed (2), then what the checks after them say.
-pub fn check_vessel(v: Vessel, rest: Verdict) -> Verdict
-    ensures { result ≡ Spec.verdict (Spec.vessel_checks v) rest }
+// The course (number 1), then the speed (2).
+pub fn check_vessel(v: Vessel) -> Result<(), Refusal>
+    ensures { result ≡ Spec.checked (Spec.vessel_checks v) }
 {
-    unless(
-        is_direction(v.course),
-        Refusal::Angle,
-        unless(is_speed(v.speed), Refusal::Speed, rest),
-    )
+    ensure(is_direction(v.course), Refusal::Angle)?;
+    ensure(is_speed(v.speed), Refusal::Speed)
 }
 
-// The bearing (number 1), the range (3), then what the checks after them say.
-pub fn check_contact(c: Contact, rest: Verdict) -> Verdict
-    ensures { result ≡ Spec.verdict (Spec.contact_checks c) rest }
+// The bearing (number 1), then the range (3).
+pub fn check_contact(c: Contact) -> Result<(), Refusal>
+    ensures { result ≡ Spec.checked (Spec.contact_checks c) }
 {
-    unless(
-        is_direction(c.bearing),
-        Refusal::Angle,
-        unless(is_distance(c.range), Refusal::Distance, rest),
-    )
+    ensure(is_direction(c.bearing), Refusal::Angle)?;
+    ensure(is_distance(c.range), Refusal::Distance)
 }
 
-// The distance (number 3), then what the checks after it say.
-pub fn check_distance(d: Distance, rest: Verdict) -> Verdict
-    ensures { result ≡ Spec.verdict (Spec.distance_checks d) rest }
+// The distance (number 3).
+pub fn check_distance(d: Distance) -> Result<(), Refusal>
+    ensures { result ≡ Spec.checked (Spec.distance_checks d) }
 {
-    unless(is_distance(d), Refusal::Distance, rest)
+    ensure(is_distance(d), Refusal::Distance)
 }
 
 // Own craft, the contact and the target.
-pub fn check_encounter(own: Vessel, contact: Contact, target: Vessel, rest: Verdict) -> Verdict
-    ensures { result ≡ Spec.verdict (Spec.encounter_checks own contact target) rest }
+pub fn check_encounter(own: Vessel, contact: Contact, target: Vessel) -> Result<(), Refusal>
+    ensures { result ≡ Spec.checked (Spec.encounter_checks own contact target) }
 {
-    check_vessel(own, check_contact(contact, check_vessel(target, rest)))
+    check_vessel(own)?;
+    check_contact(contact)?;
+    check_vessel(target)
 }

@@ -1,5 +1,6 @@
 -- What the code of the assessment owes.
-use mathlib.Core.Path.{◌≡◌, refl, sym, ap, ◌∙◌}
+use Rattle.std.specs.Prelude.{Err, Ok}
+use mathlib.Core.Path.{◌≡◌, refl, ap, ◌∙◌}
 use mathlib.Core.List.{◌++◌}
 use lib.Ieee.{Float}
 use Rattle.root.specs.Hypot.{hypot}
@@ -10,27 +11,24 @@ use Rattle.motion.specs.declared.vessel.Vessel.{Vessel}
 use Rattle.motion.specs.declared.vessel.Contact.{Contact}
 use Rattle.motion.specs.declared.vessel.Components.{Components}
 use Rattle.motion.specs.Vessel.{unit, direction_of, offset, relative_velocity}
-use Rattle.arguments.specs.declared.Verdict.{Verdict}
-use Rattle.arguments.specs.declared.Verdict.TheVariants as Verdict
-use Rattle.arguments.specs.Check.{verdict, encounter_checks}
-use Rattle.arguments.proofs.Checks.{verdict_joined}
+use Rattle.std.specs.declared.option.Option.{Option}
+use Rattle.std.specs.declared.result.Result.{Result}
+use Rattle.motion.specs.declared.units.Distance.{Distance}
+use Rattle.relative_motion.specs.declared.approach.Cpa.{Cpa}
+use Rattle.arguments.specs.Check.{encounter_checks, checked}
 use Rattle.relative_motion.specs.declared.approach.Approach.{Approach}
-use Rattle.bow.specs.declared.BowAnswer.{BowAnswer}
 use Rattle.relative_motion.specs.Approach.{approach_from}
 use Rattle.bow.specs.Bow.{crossing}
 use Rattle.policy.specs.declared.CpaPolicy.{CpaPolicy}
 use Rattle.risk.specs.declared.CollisionRisk.{CollisionRisk}
-use Rattle.risk.specs.declared.PerhapsCpa.{PerhapsCpa}
-use Rattle.risk.specs.declared.PerhapsDistance.{PerhapsDistance}
 use Rattle.assessment.specs.declared.assess.CollisionAssessment.{CollisionAssessment}
-use Rattle.assessment.specs.declared.assess.AssessAnswer.TheVariants as AssessAnswer
 use Rattle.policy.specs.Policy.{policy_checks}
 use Rattle.risk.specs.Risk.{drift_of, nearest, ahead_of, risk_of}
 use Rattle.assessment.specs.Assess.{assessment, assess_by, assess_answer}
 
 -- ---- with accepted arguments
 module _ (own : Vessel) (contact : Contact) (target : Vessel) (policy : CpaPolicy) (o r u : Components) (is-o : o ≡ offset contact) (is-r : r ≡ relative_velocity own target) (is-u : u ≡ unit own.course.0) where
-  pub gathered : (course : Direction) (speed : Float) (drift : RateOfTurn) (a : Approach) (cpa : PerhapsCpa) (b : BowAnswer) (ahead : PerhapsDistance) (risk : CollisionRisk)
+  pub gathered : (course : Direction) (speed : Float) (drift : RateOfTurn) (a : Approach) (cpa : Option Cpa) (b : Result Distance Refusal) (ahead : Option Distance) (risk : CollisionRisk)
       → course ≡ direction_of r → speed ≡ hypot r.north r.east → drift ≡ drift_of contact.range.0 o r
       → a ≡ approach_from contact.range o r → cpa ≡ nearest a → b ≡ crossing contact.range.0 o r u → ahead ≡ ahead_of b → risk ≡ risk_of policy cpa
       → ◌≡◌ {A = CollisionAssessment}
@@ -39,15 +37,12 @@ module _ (own : Vessel) (contact : Contact) (target : Vessel) (policy : CpaPolic
   unfolding assessment
   gathered course speed drift a cpa b ahead risk e1 e2 e3 e4 e5 e6 e7 e8 = rw (e1, e2, e3, e8, e7) rw (e6, e5) rw e4 rw (is-o, is-r, is-u) refl
 
--- ---- by the verdict v
-module _ (own : Vessel) (contact : Contact) (target : Vessel) (policy : CpaPolicy) (w v : Verdict) (is-w : w ≡ verdict (policy_checks policy) Verdict.Accepted) (is-v : v ≡ verdict (encounter_checks own contact target) w) where
-  checked : v ≡ verdict (encounter_checks own contact target ++ policy_checks policy) Verdict.Accepted
-  checked = is-v ∙ ap (verdict (encounter_checks own contact target)) is-w ∙ sym (verdict_joined (encounter_checks own contact target) (policy_checks policy) Verdict.Accepted)
-
-  pub answered : (a : CollisionAssessment) → v ≡ Verdict.Accepted → a ≡ assessment own contact target policy → AssessAnswer.Of a ≡ assess_answer own contact target policy
+-- ---- by the verdict on the arguments
+module _ (own : Vessel) (contact : Contact) (target : Vessel) (policy : CpaPolicy) where
+  pub answered : (a : CollisionAssessment) → Ok tt ≡ checked (encounter_checks own contact target ++ policy_checks policy) → a ≡ assessment own contact target policy → Ok a ≡ assess_answer own contact target policy
   unfolding assess_answer
-  answered a h e = ap AssessAnswer.Of e ∙ ap (λ v. assess_by v (assessment own contact target policy)) (sym h ∙ checked)
+  answered a h e = ap Ok e ∙ ap (λ v. assess_by v (assessment own contact target policy)) h
 
-  pub refused : (why : Refusal) → v ≡ Verdict.Refused why → AssessAnswer.Refused why ≡ assess_answer own contact target policy
+  pub refused : (why : Refusal) → Err why ≡ checked (encounter_checks own contact target ++ policy_checks policy) → Err why ≡ assess_answer own contact target policy
   unfolding assess_answer
-  refused why h = ap (λ v. assess_by v (assessment own contact target policy)) (sym h ∙ checked)
+  refused why h = ap (λ v. assess_by v (assessment own contact target policy)) h

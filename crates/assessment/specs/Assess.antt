@@ -1,27 +1,22 @@
 -- The assessment of one contact (assessment.rs, `assess`), operation by operation.
-use Rattle.std.specs.Prelude.{◌++◌, ℕ}
+use Rattle.std.specs.Prelude.{◌++◌, ℕ, None, Some, Err, Ok}
 use Rattle.root.specs.Hypot.{hypot}
 use Rattle.elementary.specs.Refusal.{number_of}
 use Rattle.motion.specs.declared.vessel.Vessel.{Vessel}
 use Rattle.motion.specs.declared.vessel.Contact.{Contact}
 use Rattle.motion.specs.Vessel.{unit, direction_of, offset, relative_velocity}
-use Rattle.arguments.specs.declared.Verdict.{Verdict}
-use Rattle.arguments.specs.declared.Verdict.TheVariants as Verdict
+use Rattle.std.specs.declared.option.Option.{Option}
+use Rattle.std.specs.declared.result.Result.{Result}
+use Rattle.elementary.specs.declared.error.Refusal.{Refusal}
+use Rattle.motion.specs.declared.units.Direction.{Direction}
+use Rattle.motion.specs.declared.units.Distance.{Distance}
+use Rattle.relative_motion.specs.declared.approach.Cpa.{Cpa}
+use Rattle.time.specs.declared.Duration.{Duration}
 use Rattle.arguments.specs.Check.{verdict, encounter_checks}
 use Rattle.relative_motion.specs.Approach.{approach_from}
 use Rattle.bow.specs.Bow.{crossing}
 use Rattle.policy.specs.declared.CpaPolicy.{CpaPolicy}
-use Rattle.risk.specs.declared.PerhapsCpa.{PerhapsCpa}
-use Rattle.risk.specs.declared.PerhapsCpa.TheVariants as Cpas
-use Rattle.risk.specs.declared.PerhapsDistance.{PerhapsDistance}
-use Rattle.risk.specs.declared.PerhapsDistance.TheVariants as Distances
-use Rattle.assessment.specs.declared.assess.PerhapsTime.{PerhapsTime}
-use Rattle.assessment.specs.declared.assess.PerhapsTime.TheVariants as Times
-use Rattle.assessment.specs.declared.assess.PerhapsBearing.{PerhapsBearing}
-use Rattle.assessment.specs.declared.assess.PerhapsBearing.TheVariants as Bearings
 use Rattle.assessment.specs.declared.assess.CollisionAssessment.{CollisionAssessment}
-use Rattle.assessment.specs.declared.assess.AssessAnswer.{AssessAnswer}
-use Rattle.assessment.specs.declared.assess.AssessAnswer.TheVariants.{Of, Refused}
 use Rattle.policy.specs.Policy.{policy_checks}
 use Rattle.risk.specs.Risk.{drift_of, nearest, ahead_of, risk_of}
 
@@ -41,27 +36,27 @@ assessment own contact target policy =
     }
 
 -- own, contact, target, policy
-abbrev pub assess_by : Verdict → CollisionAssessment → AssessAnswer
-assess_by Verdict.Accepted a = Of a
-assess_by (Verdict.Refused why) a = Refused why
+abbrev pub assess_by : Result (Unit {0}) Refusal → CollisionAssessment → Result CollisionAssessment Refusal
+assess_by (Ok tt) a = Ok a
+assess_by (Err why) a = Err why
 
-unfoldable pub assess_answer : Vessel → Contact → Vessel → CpaPolicy → AssessAnswer
-assess_answer own contact target policy = assess_by (verdict (encounter_checks own contact target ++ policy_checks policy) Verdict.Accepted) (assessment own contact target policy)
+unfoldable pub assess_answer : Vessel → Contact → Vessel → CpaPolicy → Result CollisionAssessment Refusal
+assess_answer own contact target policy = assess_by (verdict (encounter_checks own contact target ++ policy_checks policy) (Ok tt)) (assessment own contact target policy)
 
 -- ---- what an assessment says of the closest approach
-abbrev pub distance_in : PerhapsCpa → PerhapsDistance
-distance_in Cpas.Nothing = Distances.Nothing
-distance_in (Cpas.Of cpa) = Distances.Of cpa.distance
+abbrev pub distance_in : Option Cpa → Option Distance
+distance_in None = None
+distance_in (Some cpa) = Some cpa.distance
 
-abbrev pub time_in : PerhapsCpa → PerhapsTime
-time_in Cpas.Nothing = Times.Nothing
-time_in (Cpas.Of cpa) = Times.Of cpa.time_to_go
+abbrev pub time_in : Option Cpa → Option Duration
+time_in None = None
+time_in (Some cpa) = Some cpa.time_to_go
 
-abbrev pub bearing_in : PerhapsCpa → PerhapsBearing
-bearing_in Cpas.Nothing = Bearings.Nothing
-bearing_in (Cpas.Of cpa) = Bearings.Of cpa.bearing
+abbrev pub bearing_in : Option Cpa → Option Direction
+bearing_in None = None
+bearing_in (Some cpa) = Some cpa.bearing
 
 -- document 01's number of an answer, 0 where it is answered
-abbrev pub assess_number : AssessAnswer → ℕ
-assess_number (Of a) = 0
-assess_number (Refused why) = number_of why
+abbrev pub assess_number : Result CollisionAssessment Refusal → ℕ
+assess_number (Ok a) = 0
+assess_number (Err why) = number_of why

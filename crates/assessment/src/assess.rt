@@ -2,28 +2,15 @@
 ghost use Rattle.std.specs.Prelude.{◌≡◌};
 ghost use Rattle.assessment.specs.Assess as Spec;
 
-use arguments::Verdict;
 use elementary::error::Refusal;
 use motion::units::{Direction, Distance, RateOfTurn, Speed};
 use motion::vessel;
 use motion::vessel::{Contact, Vessel};
 use policy::CpaPolicy;
 use relative_motion::approach;
-use risk::{CollisionRisk, PerhapsCpa, PerhapsDistance};
+use relative_motion::approach::Cpa;
+use risk::CollisionRisk;
 use time::Duration;
-
-// What an assessment lacks where the range does not close: the time and the bearing of the closest approach.
-#[derive(Clone, Copy)]
-pub enum PerhapsTime {
-    Nothing,
-    Of(Duration),
-}
-
-#[derive(Clone, Copy)]
-pub enum PerhapsBearing {
-    Nothing,
-    Of(Direction),
-}
 
 #[derive(Clone, Copy)]
 pub struct CollisionAssessment {
@@ -32,58 +19,48 @@ pub struct CollisionAssessment {
     relative_course: Direction,
     relative_speed: Speed,
     bearing_drift: RateOfTurn,
-    cpa: PerhapsCpa,
-    bow_crossing: PerhapsDistance,
+    cpa: Option<Cpa>,
+    bow_crossing: Option<Distance>,
     risk: CollisionRisk,
-}
-
-#[derive(Clone, Copy)]
-pub enum AssessAnswer {
-    Of(CollisionAssessment),
-    Refused(Refusal),
 }
 
 // With accepted arguments.
 fn assessed(own: Vessel, contact: Contact, target: Vessel, policy: CpaPolicy) -> CollisionAssessment
     ensures { result ≡ Spec.assessment own contact target policy }
 {
-    let range = contact.range;
-    let bearing = contact.bearing;
     let offset = contact.offset();
     let relative = vessel::relative_velocity(own, target);
-    let relative_course = vessel::direction_of(relative);
-    let relative_speed = Speed(root::hypot(relative.north, relative.east));
-    let drift = risk::drift_of(range.0, offset, relative);
-    let cpa = risk::nearest(approach::approach_from(range, offset, relative));
-    let ahead = risk::ahead_of(bow::crossing(
-        range.0,
+    let ahead = bow::crossing(
+        contact.range.0,
         offset,
         relative,
         vessel::unit(own.course.0),
-    ));
-    let risk = risk::risk_of(policy, cpa);
+    );
+    let cpa = risk::nearest(approach::approach_from(contact.range, offset, relative));
     CollisionAssessment {
-        range: range,
-        bearing: bearing,
-        relative_course: relative_course,
-        relative_speed: relative_speed,
-        bearing_drift: drift,
-        cpa: cpa,
-        bow_crossing: ahead,
-        risk: risk,
+        range: contact.range,
+        bearing: contact.bearing,
+        relative_course: vessel::direction_of(relative),
+        relative_speed: Speed(root::hypot(relative.north, relative.east)),
+        bearing_drift: risk::drift_of(contact.range.0, offset, relative),
+        cpa,
+        bow_crossing: risk::ahead_of(ahead),
+        risk: risk::risk_of(policy, cpa),
     }
 }
 
 // Arguments are checked in document 01's order: own craft, the contact, the target, the policy.
-pub fn assess(own: Vessel, contact: Contact, target: Vessel, policy: CpaPolicy) -> AssessAnswer
+pub fn assess(
+    own: Vessel,
+    contact: Contact,
+    target: Vessel,
+    policy: CpaPolicy,
+) -> Result<CollisionAssessment, Refusal>
     ensures { result ≡ Spec.assess_answer own contact target policy }
 {
-    let last = policy::check_policy(policy, Verdict::Accepted);
-    let verdict = arguments::check_encounter(own, contact, target, last);
-    match verdict {
-        Verdict::Accepted => AssessAnswer::Of(assessed(own, contact, target, policy)),
-        Verdict::Refused(why) => AssessAnswer::Refused(why),
-    }
+    arguments::check_encounter(own, contact, target)?;
+    policy::check_policy(policy)?;
+    Ok(assessed(own, contact, target, policy))
 }
 
 impl CollisionAssessment {
@@ -123,56 +100,35 @@ impl CollisionAssessment {
     }
 
     // The closest approach, where the range closes.
-    pub fn cpa(self) -> PerhapsCpa
+    pub fn cpa(self) -> Option<Cpa>
         ensures { result ≡ self.cpa }
     {
         self.cpa
     }
 
     // The distance of the closest approach, where the range closes.
-    pub fn cpa_distance(self) -> PerhapsDistance
+    pub fn cpa_distance(self) -> Option<Distance>
         ensures { result ≡ Spec.distance_in self.cpa }
     {
-        let cpa = self.cpa;
-        match cpa {
-            PerhapsCpa::Nothing => PerhapsDistance::Nothing,
-            PerhapsCpa::Of(c) => {
-                let d = c.distance;
-                PerhapsDistance::Of(d)
-            }
-        }
+        self.cpa.map(|cpa| cpa.distance)
     }
 
     // The time to the closest approach, where the range closes.
-    pub fn tcpa(self) -> PerhapsTime
+    pub fn tcpa(self) -> Option<Duration>
         ensures { result ≡ Spec.time_in self.cpa }
     {
-        let cpa = self.cpa;
-        match cpa {
-            PerhapsCpa::Nothing => PerhapsTime::Nothing,
-            PerhapsCpa::Of(c) => {
-                let t = c.time_to_go;
-                PerhapsTime::Of(t)
-            }
-        }
+        self.cpa.map(|cpa| cpa.time_to_go)
     }
 
     // The true bearing at the closest approach, where the range closes.
-    pub fn bearing_at_cpa(self) -> PerhapsBearing
+    pub fn bearing_at_cpa(self) -> Option<Direction>
         ensures { result ≡ Spec.bearing_in self.cpa }
     {
-        let cpa = self.cpa;
-        match cpa {
-            PerhapsCpa::Nothing => PerhapsBearing::Nothing,
-            PerhapsCpa::Of(c) => {
-                let b = c.bearing;
-                PerhapsBearing::Of(b)
-            }
-        }
+        self.cpa.map(|cpa| cpa.bearing)
     }
 
     // The range ahead at which the target crosses own track, if she will.
-    pub fn bow_crossing(self) -> PerhapsDistance
+    pub fn bow_crossing(self) -> Option<Distance>
         ensures { result ≡ self.bow_crossing }
     {
         self.bow_crossing

@@ -1,8 +1,9 @@
 -- On accepted arguments what is computed is the plain definition: a seed that is not above most is an alteration that fits, as every trial is.
+use Rattle.std.specs.Prelude.{None, Some, Err, Ok}
 use mathlib.Core.Path.{◌≡◌, refl, sym, ap, ◌∙◌, subst}
 use mathlib.Core.Bool.{Bool, true, false, cond}
 use mathlib.Core.List.Memᴰ
-use mathlib.Core.List.{[], ◌∷◌, ◌++◌, Memᴰ}
+use mathlib.Core.List.{[], ◌∷◌, ◌++◌}
 use mathlib.Core.Logic.{⊎_elim}
 use Prim.Native.Nat.{ℕ, ◌*◌, ◌^◌, ◌≤◌}
 use native.Mathlib.Omega.{arith}
@@ -28,13 +29,13 @@ use Rattle.motion.specs.declared.units.Direction.{Direction}
 use Rattle.motion.specs.declared.units.Distance.{Distance}
 use Rattle.motion.specs.declared.vessel.Vessel.{Vessel}
 use Rattle.motion.specs.declared.vessel.Contact.{Contact}
-use Rattle.arguments.specs.declared.Verdict.{Verdict}
-use Rattle.arguments.specs.declared.Verdict.TheVariants as Verdict
+use Rattle.choice.specs.declared.Chosen.{Chosen}
+use Rattle.clearing.specs.declared.Passing.{Passing}
+use Rattle.std.specs.declared.option.Option.{Option}
+use Rattle.std.specs.declared.result.Result.{Result}
+use Rattle.manoeuvre.specs.declared.AvoidanceManoeuvre.{AvoidanceManoeuvre}
 use Rattle.arguments.specs.Check as Check
 use Rattle.arguments.specs.Check.{verdict, encounter_checks, distance_checks}
-use Rattle.arguments.proofs.Checks.{verdict_joined}
-use Rattle.course.specs.declared.Alteration.{Alteration}
-use Rattle.course.specs.declared.Alteration.TheVariants as Alteration
 use Rattle.course.specs.declared.Avoidance.{Avoidance}
 use Rattle.course.specs.Course.{course_answer}
 use Rattle.manoeuvre.specs.declared.Side.{Side}
@@ -42,20 +43,13 @@ use Rattle.manoeuvre.specs.declared.Side.TheVariants.{Starboard, Port}
 use Rattle.constraints.specs.declared.ManoeuvreConstraints.{ManoeuvreConstraints}
 use Rattle.constraints.specs.Constraints.{permits_starboard, permits_port, constraint_checks}
 use Rattle.trials.specs.Trials.{trials, Limits}
-use Rattle.clearing.specs.declared.Clearance.{Clearance}
 use Rattle.clearing.specs.Clearing.{floor_of, moving}
-use Rattle.choice.specs.declared.Choice.{Choice}
-use Rattle.choice.specs.declared.Choice.TheVariants as Choice
 use Rattle.choice.specs.Choice.{signed, chosen, first, smaller, or_else, trial_clears, clears_on}
 use Rattle.motion_laws.specs.Sound.{HeldVessel, HeldContact, AllGood}
 use Rattle.motion_laws.proofs.Sizes.{all_good}
 use Rattle.choice_laws.specs.Fit.{FitVessel, FitTarget, FitTargets}
 use Rattle.choice_laws.proofs.Accepting.{good_front, good_back, limits_fit}
 use Rattle.choice_laws.proofs.Searched.{trial-small, same_first, same_trial}
-use Rattle.seeds.specs.declared.Seed.{Seed}
-use Rattle.seeds.specs.declared.Seed.TheVariants as Seed
-use Rattle.avoid.specs.declared.ManoeuvreAnswer.{ManoeuvreAnswer}
-use Rattle.avoid.specs.declared.ManoeuvreAnswer.TheVariants.{Of, Refused}
 use Rattle.avoid.specs.Avoid.{courses_in, raised, seed_by, seed_on, seed_choice, seeded_side, seeded_choice, answered, target_of, avoided, avoided_as, avoid_checks, avoid_by, avoid_answer}
 
 -- ---- the size of a seed
@@ -91,30 +85,30 @@ module _ (least most : Float) (L : Limits least most) where
       go false h = size_small a t (le_trans_float (abs a) most half_turn h L.at_most)
 
   -- ---- the choices agree
-  module _ (f g : Float → Clearance) (same : (m : Float) → Small 9 0 m → f m ≡ g m) (side : Side) where
+  module _ (f g : Float → Option Passing) (same : (m : Float) → Small 9 0 m → f m ≡ g m) (side : Side) where
     same_seed : (a : Float) → T (fits binary64 a) → seed_choice f side most (seed_by side least a) ≡ seed_choice g side most (seed_by side least a)
     unfolding seed_by
     same_seed a t = go (lt Check.zero (signed side a))
       where
-        at : (b : Bool) → le (raised least (abs a)) most ≡ b → cond b (chosen side (raised least (abs a)) (f (raised least (abs a)))) Choice.Nothing ≡ cond b (chosen side (raised least (abs a)) (g (raised least (abs a)))) Choice.Nothing
+        at : (b : Bool) → le (raised least (abs a)) most ≡ b → cond b (chosen side (raised least (abs a)) (f (raised least (abs a)))) None ≡ cond b (chosen side (raised least (abs a)) (g (raised least (abs a)))) None
         at true e = ap (chosen side (raised least (abs a))) (same (raised least (abs a)) (raised-small a t (holds e)))
         at false e = refl
 
-        go : (b : Bool) → seed_choice f side most (cond b (Seed.Of (raised least (abs a))) Seed.Nothing) ≡ seed_choice g side most (cond b (Seed.Of (raised least (abs a))) Seed.Nothing)
+        go : (b : Bool) → seed_choice f side most (cond b (Some (raised least (abs a))) None) ≡ seed_choice g side most (cond b (Some (raised least (abs a))) None)
         go true = at (le (raised least (abs a)) most) refl
         go false = refl
 
-    same_side_lem : (permitted : Bool) (own : Direction) (a : Alteration) → seeded_side permitted f side most (seed_on own side least a) (trials least most) ≡ seeded_side permitted g side most (seed_on own side least a) (trials least most)
+    same_side_lem : (permitted : Bool) (own : Direction) (a : Option Direction) → seeded_side permitted f side most (seed_on own side least a) (trials least most) ≡ seeded_side permitted g side most (seed_on own side least a) (trials least most)
     unfolding seeded_side
     same_side_lem permitted own a =
-        ap (λ s. cond permitted (or_else s (first f side (trials least most))) Choice.Nothing) (seeds a)
-        ∙ ap (λ k. cond permitted (or_else (seed_choice g side most (seed_on own side least a)) k) Choice.Nothing) (same_first f g side (trials least most) (λ m h. same m (trial-small least most L m h)))
+        ap (λ s. cond permitted (or_else s (first f side (trials least most))) None) (seeds a)
+        ∙ ap (λ k. cond permitted (or_else (seed_choice g side most (seed_on own side least a)) k) None) (same_first f g side (trials least most) (λ m h. same m (trial-small least most L m h)))
       where
-        seeds : (a : Alteration) → seed_choice f side most (seed_on own side least a) ≡ seed_choice g side most (seed_on own side least a)
-        seeds Alteration.Nothing = refl
-        seeds (Alteration.To course) = same_seed (half_fold (course.0 ⊖ own.0)) (half_fold-fits (course.0 ⊖ own.0) (sub-fits binary64 course.0 own.0))
+        seeds : (a : Option Direction) → seed_choice f side most (seed_on own side least a) ≡ seed_choice g side most (seed_on own side least a)
+        seeds None = refl
+        seeds (Some course) = same_seed (half_fold (course.0 ⊖ own.0)) (half_fold-fits (course.0 ⊖ own.0) (sub-fits binary64 course.0 own.0))
 
-same_seeded : (own : Vessel) (f g : Side → Float → Clearance) (courses : Avoidance) (c : ManoeuvreConstraints) → Limits c.least_alteration.0 c.most_alteration.0 → ((side : Side) (m : Float) → Small 9 0 m → f side m ≡ g side m) → seeded_choice own f courses c ≡ seeded_choice own g courses c
+same_seeded : (own : Vessel) (f g : Side → Float → Option Passing) (courses : Avoidance) (c : ManoeuvreConstraints) → Limits c.least_alteration.0 c.most_alteration.0 → ((side : Side) (m : Float) → Small 9 0 m → f side m ≡ g side m) → seeded_choice own f courses c ≡ seeded_choice own g courses c
 unfolding seeded_choice
 same_seeded own f g courses c L same =
     ap (λ s. smaller s (side f Port (permits_port c.sides) courses.port)) (same_side_lem least most L (f Starboard) (g Starboard) (same Starboard) Starboard (permits_starboard c.sides) own.course courses.starboard)
@@ -126,7 +120,7 @@ same_seeded own f g courses c L same =
     most : Float
     most = c.most_alteration.0
 
-    side : (Side → Float → Clearance) → Side → Bool → Alteration → Choice
+    side : (Side → Float → Option Passing) → Side → Bool → Option Direction → Option Chosen
     side k s b a = seeded_side b (k s) s most (seed_on own.course s least a) (trials least most)
 
 -- ---- the answer
@@ -137,8 +131,8 @@ pub record HeldEncounter (own : Vessel) (contact : Contact) (target : Vessel) (c
   pub least : T (fits binary64 c.least_alteration.0)
   pub most : T (fits binary64 c.most_alteration.0)
 
-module _ (own : Vessel) (contact : Contact) (target : Vessel) (desired : Distance) (c : ManoeuvreConstraints) (k : HeldEncounter own contact target c) (w : Verdict) (is : w ≡ verdict (avoid_checks own contact target desired c) Verdict.Accepted) where
-  same : w ≡ Verdict.Accepted → avoided_as own contact target desired c ≡ avoided own contact target desired c
+module _ (own : Vessel) (contact : Contact) (target : Vessel) (desired : Distance) (c : ManoeuvreConstraints) (k : HeldEncounter own contact target c) (w : Result (Unit {0}) Refusal) (is : w ≡ verdict (avoid_checks own contact target desired c) (Ok tt)) where
+  same : w ≡ (Ok tt) → avoided_as own contact target desired c ≡ avoided own contact target desired c
   unfolding avoided_as avoided avoid_checks encounter_checks
   same e = ap (answered own c) (same_seeded own (clears_on own (floor_of desired) (moving (target_of contact target) ∷ [])) (trial_clears own (target_of contact target ∷ []) desired) (courses_in (course_answer own contact target desired)) c limits (λ side m s. same_trial own (target_of contact target ∷ []) desired own_fit targets side m s))
     where
@@ -166,18 +160,12 @@ module _ (own : Vessel) (contact : Contact) (target : Vessel) (desired : Distanc
       limits : Limits c.least_alteration.0 c.most_alteration.0
       limits = limits_fit c k.least k.most (good_back (distance_checks desired) (constraint_checks c) (good_back (encounter_checks own contact target) (distance_checks desired ++ constraint_checks c) split))
 
-  of : (u : Verdict) → w ≡ u → avoid_by u (avoided own contact target desired c) ≡ avoid_answer own contact target desired c
+  of : (u : Result (Unit {0}) Refusal) → w ≡ u → avoid_by u (avoided own contact target desired c) ≡ avoid_answer own contact target desired c
   unfolding avoid_answer
   of u e = ap (λ v. avoid_by v (avoided own contact target desired c)) (sym e ∙ is)
 
-  pub accepted : w ≡ Verdict.Accepted → (r : ManoeuvreAnswer) → r ≡ avoided_as own contact target desired c → r ≡ avoid_answer own contact target desired c
-  accepted e r er = er ∙ same e ∙ of Verdict.Accepted e
+  pub accepted : w ≡ (Ok tt) → (r : Result AvoidanceManoeuvre Refusal) → r ≡ avoided_as own contact target desired c → r ≡ avoid_answer own contact target desired c
+  accepted e r er = er ∙ same e ∙ of (Ok tt) e
 
-  pub refused : (why : Refusal) → w ≡ Verdict.Refused why → Refused why ≡ avoid_answer own contact target desired c
-  refused why e = of (Verdict.Refused why) e
-
-pub checked : (own : Vessel) (contact : Contact) (target : Vessel) (desired : Distance) (c : ManoeuvreConstraints) (v1 v2 v3 : Verdict) → v1 ≡ verdict (constraint_checks c) Verdict.Accepted → v2 ≡ verdict (distance_checks desired) v1 → v3 ≡ verdict (encounter_checks own contact target) v2 → v3 ≡ verdict (avoid_checks own contact target desired c) Verdict.Accepted
-unfolding avoid_checks
-checked own contact target desired c v1 v2 v3 e1 e2 e3 =
-    e3 ∙ ap (verdict (encounter_checks own contact target)) (e2 ∙ ap (verdict (distance_checks desired)) e1 ∙ sym (verdict_joined (distance_checks desired) (constraint_checks c) Verdict.Accepted))
-    ∙ sym (verdict_joined (encounter_checks own contact target) (distance_checks desired ++ constraint_checks c) Verdict.Accepted)
+  pub refused : (why : Refusal) → w ≡ Err why → Err why ≡ avoid_answer own contact target desired c
+  refused why e = of (Err why) e

@@ -1,16 +1,16 @@
 -- The avoidance of one contact (avoidance.rs, `avoid` and `search`); the seeds and the choice among them are those of crates/seeds/specs/Seeds.antt.
-use Rattle.std.specs.Prelude.{List, [], ◌∷◌, ◌++◌, ℕ}
+use Rattle.std.specs.Prelude.{List, [], ◌∷◌, ◌++◌, ℕ, None, Some, Err, Ok}
 use Rattle.math.specs.Sign.{abs}
 use Rattle.elementary.specs.Refusal.{number_of}
 use Rattle.elementary.specs.declared.error.Refusal.TheVariants as Why
 use Rattle.motion.specs.declared.units.Distance.{Distance}
 use Rattle.motion.specs.declared.vessel.Vessel.{Vessel}
 use Rattle.motion.specs.declared.vessel.Contact.{Contact}
-use Rattle.arguments.specs.declared.Verdict.{Verdict}
-use Rattle.arguments.specs.declared.Verdict.TheVariants as Verdict
+use Rattle.std.specs.declared.option.Option.{Option}
+use Rattle.std.specs.declared.result.Result.{Result}
+use Rattle.elementary.specs.declared.error.Refusal.{Refusal}
 use Rattle.arguments.specs.Check.{Check, verdict, encounter_checks, distance_checks}
 use Rattle.course.specs.Course.{course_answer}
-use Rattle.manoeuvre.specs.declared.Limiting.TheVariants as Limiting
 use Rattle.manoeuvre.specs.declared.AvoidanceManoeuvre.{AvoidanceManoeuvre}
 use Rattle.constraints.specs.declared.ManoeuvreConstraints.{ManoeuvreConstraints}
 use Rattle.constraints.specs.Constraints.{constraint_checks}
@@ -18,11 +18,7 @@ use Rattle.manoeuvre.specs.Manoeuvre.{turn_time, manoeuvre}
 use Rattle.passages.specs.declared.Target.{Target}
 use Rattle.clearing.specs.Clearing.{floor_of, altered, moving}
 use Rattle.choice.specs.declared.Chosen.{Chosen}
-use Rattle.choice.specs.declared.Choice.{Choice}
-use Rattle.choice.specs.declared.Choice.TheVariants as Choice
 use Rattle.choice.specs.Choice.{signed, trial_clears, clears_on}
-use Rattle.avoid.specs.declared.ManoeuvreAnswer.{ManoeuvreAnswer}
-use Rattle.avoid.specs.declared.ManoeuvreAnswer.TheVariants.{Of, Refused}
 pub use Rattle.seeds.specs.Seeds.{no_courses, courses_in, seed_on, seed_choice, only}
 unfoldable pub use Rattle.seeds.specs.Seeds.{raised, seed_by, seeded_side, seeded_choice}
 
@@ -30,34 +26,34 @@ unfoldable pub use Rattle.seeds.specs.Seeds.{raised, seed_by, seeded_side, seede
 abbrev pub manoeuvre_of : Vessel → ManoeuvreConstraints → Chosen → AvoidanceManoeuvre
 manoeuvre_of own c x =
     let alteration = signed x.side x.magnitude.0 in
-    manoeuvre (altered own alteration).course (record { 0 = alteration }) (turn_time (abs alteration) c.rate_of_turn) x.passing.distance Limiting.Nobody
+    manoeuvre (altered own alteration).course (record { 0 = alteration }) (turn_time (abs alteration) c.rate_of_turn) x.passing.distance None
 
-abbrev pub answered : Vessel → ManoeuvreConstraints → Choice → ManoeuvreAnswer
-answered own c Choice.Nothing = Refused Why.NoTrialClears
-answered own c (Choice.Of x) = Of (manoeuvre_of own c x)
+abbrev pub answered : Vessel → ManoeuvreConstraints → Option Chosen → Result AvoidanceManoeuvre Refusal
+answered own c None = Err Why.NoTrialClears
+answered own c (Some x) = Ok (manoeuvre_of own c x)
 
 abbrev pub target_of : Contact → Vessel → Target
 target_of contact target = record { contact = contact; vessel = target }
 
-unfoldable pub avoided : Vessel → Contact → Vessel → Distance → ManoeuvreConstraints → ManoeuvreAnswer
+unfoldable pub avoided : Vessel → Contact → Vessel → Distance → ManoeuvreConstraints → Result AvoidanceManoeuvre Refusal
 avoided own contact target desired c = answered own c (seeded_choice own (trial_clears own (target_of contact target ∷ []) desired) (courses_in (course_answer own contact target desired)) c)
 
 -- own, contact, target, desired, constraints
 unfoldable pub avoid_checks : Vessel → Contact → Vessel → Distance → ManoeuvreConstraints → List Check
 avoid_checks own contact target desired c = encounter_checks own contact target ++ (distance_checks desired ++ constraint_checks c)
 
-abbrev pub avoid_by : Verdict → ManoeuvreAnswer → ManoeuvreAnswer
-avoid_by Verdict.Accepted a = a
-avoid_by (Verdict.Refused why) a = Refused why
+abbrev pub avoid_by : Result (Unit {0}) Refusal → Result AvoidanceManoeuvre Refusal → Result AvoidanceManoeuvre Refusal
+avoid_by (Ok tt) a = a
+avoid_by (Err why) a = Err why
 
-unfoldable pub avoid_answer : Vessel → Contact → Vessel → Distance → ManoeuvreConstraints → ManoeuvreAnswer
-avoid_answer own contact target desired c = avoid_by (verdict (avoid_checks own contact target desired c) Verdict.Accepted) (avoided own contact target desired c)
+unfoldable pub avoid_answer : Vessel → Contact → Vessel → Distance → ManoeuvreConstraints → Result AvoidanceManoeuvre Refusal
+avoid_answer own contact target desired c = avoid_by (verdict (avoid_checks own contact target desired c) (Ok tt)) (avoided own contact target desired c)
 
 -- ---- what is computed, from offset and velocity; the same on accepted arguments
-unfoldable pub avoided_as : Vessel → Contact → Vessel → Distance → ManoeuvreConstraints → ManoeuvreAnswer
+unfoldable pub avoided_as : Vessel → Contact → Vessel → Distance → ManoeuvreConstraints → Result AvoidanceManoeuvre Refusal
 avoided_as own contact target desired c = answered own c (seeded_choice own (clears_on own (floor_of desired) (moving (target_of contact target) ∷ [])) (courses_in (course_answer own contact target desired)) c)
 
 -- document 01's number of an answer, 0 where it is answered
-abbrev pub avoid_number : ManoeuvreAnswer → ℕ
-avoid_number (Of m) = 0
-avoid_number (Refused why) = number_of why
+abbrev pub avoid_number : Result AvoidanceManoeuvre Refusal → ℕ
+avoid_number (Ok m) = 0
+avoid_number (Err why) = number_of why

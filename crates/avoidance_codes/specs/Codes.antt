@@ -1,11 +1,11 @@
 -- Arguments of avoidance from codes and floats.
-use Rattle.std.specs.Prelude.{Bool, cond, List, [], ◌∷◌, ◌++◌, ℕ, zero, suc, ◌+◌, ◌*◌, ◌/◌, ◌%◌, min, eqb, get_or, Float}
+use Rattle.std.specs.Prelude.{Bool, cond, List, [], ◌∷◌, ◌++◌, ℕ, zero, suc, ◌+◌, ◌*◌, ◌/◌, ◌%◌, min, eqb, get_or, Float, Err, Ok}
 use Rattle.math.specs.Cast.{to_usize}
-use Rattle.manoeuvre.specs.declared.Side.TheVariants.{Starboard, Port}
 use Rattle.constraints.specs.declared.PermittedSides.{PermittedSides}
 use Rattle.constraints.specs.declared.PermittedSides.TheVariants as Permitted
-use Rattle.constraints.specs.declared.ConstraintsAnswer.{ConstraintsAnswer}
-use Rattle.constraints.specs.declared.ConstraintsAnswer.TheVariants as Constraints
+use Rattle.constraints.specs.declared.ManoeuvreConstraints.{ManoeuvreConstraints}
+use Rattle.std.specs.declared.result.Result.{Result}
+use Rattle.elementary.specs.declared.error.Refusal.{Refusal}
 use Rattle.constraints.specs.Constraints.{constraints_answer, with_rate_of_turn}
 use Rattle.room.specs.Room.{max_contacts}
 use Rattle.traffic.specs.declared.Entry.{Entry}
@@ -15,11 +15,11 @@ use Rattle.words.specs.Words as Words
 unfoldable pub permitted_sides : ℕ → PermittedSides
 permitted_sides code = cond (eqb code 0) Permitted.Either (cond (eqb code 1) Permitted.Starboard Permitted.Port)
 
-abbrev pub with_rate : ConstraintsAnswer → Float → ConstraintsAnswer
-with_rate (Constraints.Of c) rate = with_rate_of_turn c (record { 0 = rate })
-with_rate (Constraints.Refused why) rate = Constraints.Refused why
+abbrev pub with_rate : Result ManoeuvreConstraints Refusal → Float → Result ManoeuvreConstraints Refusal
+with_rate (Ok c) rate = with_rate_of_turn c (record { 0 = rate })
+with_rate (Err why) rate = Err why
 
-unfoldable pub constraints_of : ℕ → Float → Float → ℕ → Float → ConstraintsAnswer
+unfoldable pub constraints_of : ℕ → Float → Float → ℕ → Float → Result ManoeuvreConstraints Refusal
 constraints_of sides least most known rate =
     let made = constraints_answer (permitted_sides sides) (record { 0 = least }) (record { 0 = most }) in
     cond (eqb known 0) made (with_rate made rate)

@@ -5,7 +5,8 @@ ghost use Rattle.std.specs.Prelude.{◌≡◌, ◌<◌};
 ghost use Rattle.traffic.specs.Traffic as Around;
 ghost use Rattle.avoidance_codes.specs.Codes as Spec;
 
-use constraints::{ConstraintsAnswer, ManoeuvreConstraints, PermittedSides};
+use constraints::{ManoeuvreConstraints, PermittedSides};
+use elementary::error::Refusal;
 use motion::units::{Angle, RateOfTurn};
 use room::MAX_CONTACTS;
 use traffic::{Entry, Traffic};
@@ -24,7 +25,13 @@ pub fn permitted_sides(code: u32) -> PermittedSides
 }
 
 // Constraints, with a rate of turn where `known` is not 0; the first refusal that making them meets.
-pub fn constraints_of(sides: u32, least: f64, most: f64, known: u32, rate: f64) -> ConstraintsAnswer
+pub fn constraints_of(
+    sides: u32,
+    least: f64,
+    most: f64,
+    known: u32,
+    rate: f64,
+) -> Result<ManoeuvreConstraints, Refusal>
     ensures { result ≡ Spec.constraints_of sides least most known rate }
 {
     let made = ManoeuvreConstraints::new(permitted_sides(sides), Angle(least), Angle(most));
@@ -32,8 +39,8 @@ pub fn constraints_of(sides: u32, least: f64, most: f64, known: u32, rate: f64) 
         return made;
     }
     match made {
-        ConstraintsAnswer::Of(c) => c.with_rate_of_turn(RateOfTurn(rate)),
-        ConstraintsAnswer::Refused(why) => ConstraintsAnswer::Refused(why),
+        Ok(c) => c.with_rate_of_turn(RateOfTurn(rate)),
+        Err(why) => Err(why),
     }
 }
 
@@ -51,10 +58,7 @@ fn entry_at(floats: &[f64], at: usize) -> Entry
         codes::float_at(floats, at + 3),
         codes::float_at(floats, at + 4),
     );
-    Entry {
-        contact: contact,
-        target: target,
-    }
+    Entry { contact, target }
 }
 
 // Where a contact's floats begin: after eight of six each, or after five of four each.

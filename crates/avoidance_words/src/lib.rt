@@ -4,7 +4,8 @@
 ghost use Rattle.std.specs.Prelude.{◌≡◌};
 ghost use Rattle.avoidance_words.specs.Words as Spec;
 
-use manoeuvre::{Limiting, Side, TurnTime};
+use manoeuvre::Side;
+use time::Duration;
 
 // 0 starboard, 1 port.
 pub fn side_word(side: Side) -> u64
@@ -17,12 +18,12 @@ pub fn side_word(side: Side) -> u64
 }
 
 // The contact's place plus 1, or 0 for nobody.
-pub fn limiting_word(limiting: Limiting) -> u64
+pub fn limiting_word(limiting: Option<usize>) -> u64
     ensures { result ≡ Spec.limiting_word limiting }
 {
     match limiting {
-        Limiting::Nobody => 0,
-        Limiting::Contact(place) => (place % 64) as u64 + 1,
+        None => 0,
+        Some(place) => (place % 64) as u64 + 1,
     }
 }
 
@@ -32,14 +33,14 @@ pub fn turned(
     size: u64,
     course: u64,
     passing: u64,
-    time: TurnTime,
+    time: Option<Duration>,
     limiting: u64,
 ) -> [u64; 9]
     ensures { result ≡ Spec.turned side size course passing time limiting }
 {
     match time {
-        TurnTime::Nothing => [0, side, size, course, passing, 0, 0, 0, limiting],
-        TurnTime::Of(d) => [
+        None => [0, side, size, course, passing, 0, 0, 0, limiting],
+        Some(d) => [
             0,
             side,
             size,

@@ -1,20 +1,24 @@
 -- The smallest alteration to either side among the courses that are offered (relative_motion.rs, `course_for_cpa`).
-use Rattle.std.specs.Prelude.{cond, Float}
+use Rattle.std.specs.Prelude.{cond, Float, None, Some}
 use Rattle.std.specs.Float.Ieee.{lt}
 use Rattle.laws.specs.Ops.{◌⊖◌}
 use Rattle.angle.specs.Fold.{half_fold}
 use Rattle.best_course.specs.declared.Best.{Best}
-use Rattle.best_course.specs.declared.Best.TheVariants as Best
+use Rattle.std.specs.declared.option.Option.{Option}
 use Rattle.best_course.specs.declared.Choice.{Choice}
 use Rattle.arguments.specs.Check.{zero}
 
-abbrev pub smaller : Best → Float → Float → Best
-smaller Best.Nothing alteration course = Best.By alteration course
-smaller (Best.By least kept) alteration course = cond (lt alteration least) (Best.By alteration course) (Best.By least kept)
+-- a course, by how much it alters own course
+abbrev pub best : Float → Float → Best
+best alteration course = record { alteration = alteration; course = course }
 
-abbrev pub larger : Best → Float → Float → Best
-larger Best.Nothing alteration course = Best.By alteration course
-larger (Best.By most kept) alteration course = cond (lt most alteration) (Best.By alteration course) (Best.By most kept)
+abbrev pub smaller : Option Best → Float → Float → Option Best
+smaller None alteration course = Some (best alteration course)
+smaller (Some least) alteration course = cond (lt alteration least.alteration) (Some (best alteration course)) (Some least)
+
+abbrev pub larger : Option Best → Float → Float → Option Best
+larger None alteration course = Some (best alteration course)
+larger (Some most) alteration course = cond (lt most.alteration alteration) (Some (best alteration course)) (Some most)
 
 unfoldable pub offered : Float → Float → Choice → Choice
 offered own_course course choice =

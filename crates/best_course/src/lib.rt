@@ -6,43 +6,43 @@ ghost use Rattle.best_course.specs.Offers as Spec;
 
 // The best course so far on a side: by how much it alters, and the course.
 #[derive(Clone, Copy)]
-pub enum Best {
-    Nothing,
-    By(f64, f64),
+pub struct Best {
+    pub alteration: f64,
+    pub course: f64,
 }
 
 #[derive(Clone, Copy)]
 pub struct Choice {
-    pub starboard: Best,
-    pub port: Best,
+    pub starboard: Option<Best>,
+    pub port: Option<Best>,
 }
 
 // The smaller of two alterations to starboard.
-fn smaller(best: Best, alteration: f64, course: f64) -> Best
-    ensures { result ≡ Spec.smaller best alteration course }
+fn smaller(best: Option<Best>, offer: Best) -> Option<Best>
+    ensures { result ≡ Spec.smaller best offer.alteration offer.course }
 {
     match best {
-        Best::Nothing => Best::By(alteration, course),
-        Best::By(least, kept) => {
-            if alteration < least {
-                return Best::By(alteration, course);
+        None => Some(offer),
+        Some(least) => {
+            if offer.alteration < least.alteration {
+                return Some(offer);
             }
-            Best::By(least, kept)
+            Some(least)
         }
     }
 }
 
 // The larger of two alterations: to port they are negative.
-fn larger(best: Best, alteration: f64, course: f64) -> Best
-    ensures { result ≡ Spec.larger best alteration course }
+fn larger(best: Option<Best>, offer: Best) -> Option<Best>
+    ensures { result ≡ Spec.larger best offer.alteration offer.course }
 {
     match best {
-        Best::Nothing => Best::By(alteration, course),
-        Best::By(most, kept) => {
-            if alteration > most {
-                return Best::By(alteration, course);
+        None => Some(offer),
+        Some(most) => {
+            if offer.alteration > most.alteration {
+                return Some(offer);
             }
-            Best::By(most, kept)
+            Some(most)
         }
     }
 }
@@ -52,22 +52,18 @@ pub fn offered(own_course: f64, course: f64, choice: Choice) -> Choice
     ensures { result ≡ Spec.offered own_course course choice }
 {
     let alteration = angle::wrap180(course - own_course);
-    let starboard = choice.starboard;
-    let port = choice.port;
+    let offer = Best { alteration, course };
     if alteration > 0.0 {
         return Choice {
-            starboard: smaller(starboard, alteration, course),
-            port: port,
+            starboard: smaller(choice.starboard, offer),
+            port: choice.port,
         };
     }
     if alteration < 0.0 {
         return Choice {
-            starboard: starboard,
-            port: larger(port, alteration, course),
+            starboard: choice.starboard,
+            port: larger(choice.port, offer),
         };
     }
-    Choice {
-        starboard: starboard,
-        port: port,
-    }
+    choice
 }

@@ -5,7 +5,6 @@
 ghost use Rattle.std.specs.Prelude.{◌≡◌};
 ghost use Rattle.bow.specs.Bow as Spec;
 
-use arguments::Verdict;
 use elementary::error::Refusal;
 use motion::units::Distance;
 use motion::vessel;
@@ -16,12 +15,6 @@ const PARALLEL: f64 = 1e-12;
 
 // How far astern, in parts of the range, still counts as over own craft.
 const TOLERANCE: f64 = 1e-9;
-
-#[derive(Clone, Copy)]
-pub enum BowAnswer {
-    Of(Distance),
-    Refused(Refusal),
-}
 
 // x, or 0 where it is below 0 or no number.
 fn not_negative(x: f64) -> f64
@@ -39,36 +32,37 @@ pub fn crossing(
     offset: Components,
     relative: Components,
     ahead: Components,
-) -> BowAnswer
+) -> Result<Distance, Refusal>
     ensures { result ≡ Spec.crossing range offset relative ahead }
 {
     let determinant = relative.north * -ahead.east - relative.east * -ahead.north;
     if math::abs(determinant) < PARALLEL {
-        return BowAnswer::Refused(Refusal::AlongOwnTrack);
+        return Err(Refusal::AlongOwnTrack);
     }
     let time = (-offset.north * -ahead.east + offset.east * -ahead.north) / determinant;
     if time <= 0.0 {
-        return BowAnswer::Refused(Refusal::NotAhead);
+        return Err(Refusal::NotAhead);
     }
     let range_ahead = (relative.east * offset.north - relative.north * offset.east) / determinant;
     if range_ahead < -(range * TOLERANCE) {
-        return BowAnswer::Refused(Refusal::NotAhead);
+        return Err(Refusal::NotAhead);
     }
-    BowAnswer::Of(Distance(not_negative(range_ahead)))
+    Ok(Distance(not_negative(range_ahead)))
 }
 
 // The range ahead at which the contact crosses own track.
-pub fn bow_crossing_range(own: Vessel, contact: Contact, target: Vessel) -> BowAnswer
+pub fn bow_crossing_range(
+    own: Vessel,
+    contact: Contact,
+    target: Vessel,
+) -> Result<Distance, Refusal>
     ensures { result ≡ Spec.bow_answer own contact target }
 {
-    let verdict = arguments::check_encounter(own, contact, target, Verdict::Accepted);
-    match verdict {
-        Verdict::Accepted => crossing(
-            contact.range.0,
-            contact.offset(),
-            vessel::relative_velocity(own, target),
-            vessel::unit(own.course.0),
-        ),
-        Verdict::Refused(why) => BowAnswer::Refused(why),
-    }
+    arguments::check_encounter(own, contact, target)?;
+    crossing(
+        contact.range.0,
+        contact.offset(),
+        vessel::relative_velocity(own, target),
+        vessel::unit(own.course.0),
+    )
 }

@@ -8,7 +8,7 @@ ghost use Rattle.std.specs.Prelude.{◌≡◌};
 ghost use Rattle.clearing.specs.Clearing as Clearing;
 ghost use Rattle.choice.specs.Choice as Spec;
 
-use clearing::{Clearance, Passing, Scene};
+use clearing::{Passing, Scene};
 use manoeuvre::Side;
 use motion::units::{Angle, Direction};
 use motion::vessel::Vessel;
@@ -28,12 +28,6 @@ pub struct Chosen {
     pub passing: Passing,
 }
 
-#[derive(Clone, Copy)]
-pub enum Choice {
-    Nothing,
-    Of(Chosen),
-}
-
 // The alteration of a trial, positive to starboard.
 pub fn signed(side: Side, magnitude: f64) -> f64
     ensures { result ≡ Spec.signed side magnitude }
@@ -50,23 +44,18 @@ pub fn altered(own: Vessel, alteration: f64) -> Vessel
 {
     let speed = own.speed;
     let course = Direction(angle::from_degrees_wrapped(own.course.0 + alteration));
-    Vessel {
-        course: course,
-        speed: speed,
-    }
+    Vessel { course, speed }
 }
 
-fn chosen_if(side: Side, magnitude: f64, c: Clearance) -> Choice
+fn chosen_if(side: Side, magnitude: f64, c: Option<Passing>) -> Option<Chosen>
     ensures { result ≡ Spec.chosen side magnitude c }
 {
-    match c {
-        Clearance::No => Choice::Nothing,
-        Clearance::Yes(passing) => Choice::Of(Chosen {
-            side: side,
-            magnitude: Angle(magnitude),
-            passing: passing,
-        }),
-    }
+    let passing = c?;
+    Some(Chosen {
+        side,
+        magnitude: Angle(magnitude),
+        passing,
+    })
 }
 
 // A trial, on a side that is permitted or not.
@@ -77,7 +66,7 @@ pub fn try_side(
     permitted: bool,
     side: Side,
     magnitude: f64,
-) -> Choice
+) -> Option<Chosen>
     ensures { result ≡ Spec.tried permitted side magnitude (Spec.clears_on own floor (Clearing.movings scene) side magnitude) }
 {
     if permitted {
@@ -88,27 +77,17 @@ pub fn try_side(
             clearing::clears(v.velocity(), scene, floor),
         );
     }
-    Choice::Nothing
+    None
 }
 
 // The trials of one magnitude, starboard first.
-fn try_both(own: Vessel, scene: Scene, floor: f64, sides: Sides, magnitude: f64) -> Choice
+fn try_both(own: Vessel, scene: Scene, floor: f64, sides: Sides, magnitude: f64) -> Option<Chosen>
     ensures { result ≡ Spec.tried_both own floor (Clearing.movings scene) sides magnitude }
 {
-    let starboard = sides.starboard;
-    let port = sides.port;
+    let Sides { starboard, port } = sides;
     match try_side(own, scene, floor, starboard, Side::Starboard, magnitude) {
-        Choice::Of(c) => Choice::Of(c),
-        Choice::Nothing => try_side(own, scene, floor, port, Side::Port, magnitude),
-    }
-}
-
-fn is_found(c: Choice) -> bool
-    ensures { result ≡ Spec.is_found c }
-{
-    match c {
-        Choice::Nothing => false,
-        Choice::Of(chosen) => true,
+        Some(c) => Some(c),
+        None => try_side(own, scene, floor, port, Side::Port, magnitude),
     }
 }
 
@@ -120,17 +99,15 @@ pub fn smallest(
     sides: Sides,
     least: f64,
     most: f64,
-) -> Choice
+) -> Option<Chosen>
     ensures { result ≡ Spec.smallest own floor (Clearing.movings scene) sides least most }
 {
     let count = trials::count(least, most);
-    let mut k: usize = 0;
-    while k < count {
+    for k in 0..count {
         let c = try_both(own, scene, floor, sides, trials::trial(least, most, k));
-        if is_found(c) {
+        if c.is_some() {
             return c;
         }
-        k += 1;
     }
-    Choice::Nothing
+    None
 }

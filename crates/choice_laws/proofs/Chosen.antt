@@ -1,4 +1,5 @@
 -- Document 01's choice is the smallest trial on a permitted side that clears, starboard of equal ones; and it is none exactly if no trial on a permitted side clears.
+use Rattle.std.specs.Prelude.{None, Some}
 use mathlib.Core.Path.{◌≡◌, refl, sym, ap, ◌∙◌, subst}
 use mathlib.Core.Bool.{Bool, true, false, cond}
 use mathlib.Core.Logic.{◌⊎◌, inl, inr, ⊎_elim}
@@ -12,12 +13,10 @@ use Rattle.laws.proofs.Bools.{holds, fails}
 use Rattle.laws.proofs.Order.{lt_trans, eq-lt, apart}
 use Rattle.manoeuvre.specs.declared.Side.{Side}
 use Rattle.manoeuvre.specs.declared.Side.TheVariants.{Starboard, Port}
-use Rattle.clearing.specs.declared.Clearance.{Clearance}
-use Rattle.clearing.specs.declared.Clearance.TheVariants.{No}
+use Rattle.clearing.specs.declared.Passing.{Passing}
+use Rattle.std.specs.declared.option.Option.{Option}
 use Rattle.choice.specs.declared.Sides.{Sides}
 use Rattle.choice.specs.declared.Chosen.{Chosen}
-use Rattle.choice.specs.declared.Choice.{Choice}
-use Rattle.choice.specs.declared.Choice.TheVariants.{Nothing, Of}
 use Rattle.choice.specs.Choice.{smaller, side_choice, choice}
 use Rattle.choice_laws.specs.Smallest.{IsFirst, allows, IsChoice}
 use Rattle.choice_laws.proofs.First.{not_found, same_choice, none, is_first}
@@ -32,27 +31,27 @@ in_order (m ∷ ms) up x y p q =
     (Memᴰ.cases_cons p)
 
 -- ---- one side
-module _ (clears : Float → Clearance) (side : Side) (ms : List Float) where
-  side_found : Ascending ms → (permitted : Bool) (c : Chosen) → side_choice permitted clears side ms ≡ Of c → T permitted × IsFirst clears side ms c
+module _ (clears : Float → Option Passing) (side : Side) (ms : List Float) where
+  side_found : Ascending ms → (permitted : Bool) (c : Chosen) → side_choice permitted clears side ms ≡ Some c → T permitted × IsFirst clears side ms c
   unfolding side_choice
   side_found up true c e = (tt, is_first clears side ms up c e)
   side_found up false c e = absurd (not_found c e)
 
-  side_none : (permitted : Bool) → side_choice permitted clears side ms ≡ Nothing → T permitted → (m : Float) → Memᴰ m ms → clears m ≡ No
+  side_none : (permitted : Bool) → side_choice permitted clears side ms ≡ None → T permitted → (m : Float) → Memᴰ m ms → clears m ≡ None
   unfolding side_choice
   side_none true e t m h = none clears side ms e m h
   side_none false e t m h = absurd t
 
 -- ---- both sides
-module _ (sides : Sides) (clears : Side → Float → Clearance) (ms : List Float) (up : Ascending ms) where
-  abbrev s : Choice
+module _ (sides : Sides) (clears : Side → Float → Option Passing) (ms : List Float) (up : Ascending ms) where
+  abbrev s : Option Chosen
   s = side_choice sides.starboard (clears Starboard) Starboard ms
 
-  abbrev p : Choice
+  abbrev p : Option Chosen
   p = side_choice sides.port (clears Port) Port ms
 
   -- starboard's first, where port's is not smaller
-  on_starboard : (c : Chosen) → s ≡ Of c → ((m : Float) → T sides.port → Memᴰ m ms → T (lt m c.magnitude.0) → clears Port m ≡ No) → IsChoice sides clears ms c
+  on_starboard : (c : Chosen) → s ≡ Some c → ((m : Float) → T sides.port → Memᴰ m ms → T (lt m c.magnitude.0) → clears Port m ≡ None) → IsChoice sides clears ms c
   on_starboard c e other =
       let o = side_found (clears Starboard) Starboard ms up sides.starboard c e in
       record {
@@ -63,12 +62,12 @@ module _ (sides : Sides) (clears : Side → Float → Clearance) (ms : List Floa
         starboard = λ m t h q n. o.1.on_side;
       }
     where
-      by : (side : Side) (m : Float) → T (allows sides side) → Memᴰ m ms → T (lt m c.magnitude.0) → clears Starboard m ≡ No → clears side m ≡ No
+      by : (side : Side) (m : Float) → T (allows sides side) → Memᴰ m ms → T (lt m c.magnitude.0) → clears Starboard m ≡ None → clears side m ≡ None
       by Starboard m t h l k = k
       by Port m t h l k = other m t h l
 
   -- port's first, where no trial to starboard as small clears
-  on_port : (c : Chosen) → p ≡ Of c → ((m : Float) → T sides.starboard → Memᴰ m ms → T (lt m c.magnitude.0) ⊎ T (eq m c.magnitude.0) → clears Starboard m ≡ No) → IsChoice sides clears ms c
+  on_port : (c : Chosen) → p ≡ Some c → ((m : Float) → T sides.starboard → Memᴰ m ms → T (lt m c.magnitude.0) ⊎ T (eq m c.magnitude.0) → clears Starboard m ≡ None) → IsChoice sides clears ms c
   on_port c e other =
       let o = side_found (clears Port) Port ms up sides.port c e in
       record {
@@ -79,12 +78,12 @@ module _ (sides : Sides) (clears : Side → Float → Clearance) (ms : List Floa
         starboard = λ m t h q n. absurd (n (other m t h (inr q)));
       }
     where
-      by : (side : Side) (m : Float) → T (allows sides side) → Memᴰ m ms → T (lt m c.magnitude.0) → clears Port m ≡ No → clears side m ≡ No
+      by : (side : Side) (m : Float) → T (allows sides side) → Memᴰ m ms → T (lt m c.magnitude.0) → clears Port m ≡ None → clears side m ≡ None
       by Starboard m t h l k = other m t h (inl l)
       by Port m t h l k = k
 
   -- both sides have one
-  both : (a b : Chosen) → s ≡ Of a → p ≡ Of b → (t : Bool) → lt b.magnitude.0 a.magnitude.0 ≡ t → (c : Chosen) → cond t (Of b) (Of a) ≡ Of c → IsChoice sides clears ms c
+  both : (a b : Chosen) → s ≡ Some a → p ≡ Some b → (t : Bool) → lt b.magnitude.0 a.magnitude.0 ≡ t → (c : Chosen) → cond t (Some b) (Some a) ≡ Some c → IsChoice sides clears ms c
   both a b ea eb true l c e = subst (IsChoice sides clears ms) (same_choice b c e) (on_port b eb (λ m t h q. starboard.1.least m h (⊎_elim (λ k. lt_trans m b.magnitude.0 a.magnitude.0 k (holds l)) (λ k. eq-lt m b.magnitude.0 a.magnitude.0 k (holds l)) q)))
     where
       starboard : T sides.starboard × IsFirst (clears Starboard) Starboard ms a
@@ -101,27 +100,27 @@ module _ (sides : Sides) (clears : Side → Float → Clearance) (ms : List Floa
           (λ q. ⊎_elim (λ r. r) (λ r. absurd (fails (apart b.magnitude.0 m a.magnitude.0 l (is_true (lt m a.magnitude.0) k)).0 r)) q)
           (in_order ms up m b.magnitude.0 h port.1.listed)
 
-  pub is_choice : (c : Chosen) → choice sides clears ms ≡ Of c → IsChoice sides clears ms c
+  pub is_choice : (c : Chosen) → choice sides clears ms ≡ Some c → IsChoice sides clears ms c
   unfolding choice
   is_choice c e = go s refl p refl e
     where
-      go : (a : Choice) → s ≡ a → (b : Choice) → p ≡ b → smaller a b ≡ Of c → IsChoice sides clears ms c
-      go Nothing ea Nothing eb e = absurd (not_found c e)
-      go Nothing ea (Of b) eb e = subst (IsChoice sides clears ms) (same_choice b c e) (on_port b eb (λ m t h q. side_none (clears Starboard) Starboard ms sides.starboard ea t m h))
-      go (Of a) ea Nothing eb e = subst (IsChoice sides clears ms) (same_choice a c e) (on_starboard a ea (λ m t h k. side_none (clears Port) Port ms sides.port eb t m h))
-      go (Of a) ea (Of b) eb e = both a b ea eb (lt b.magnitude.0 a.magnitude.0) refl c e
+      go : (a : Option Chosen) → s ≡ a → (b : Option Chosen) → p ≡ b → smaller a b ≡ Some c → IsChoice sides clears ms c
+      go None ea None eb e = absurd (not_found c e)
+      go None ea (Some b) eb e = subst (IsChoice sides clears ms) (same_choice b c e) (on_port b eb (λ m t h q. side_none (clears Starboard) Starboard ms sides.starboard ea t m h))
+      go (Some a) ea None eb e = subst (IsChoice sides clears ms) (same_choice a c e) (on_starboard a ea (λ m t h k. side_none (clears Port) Port ms sides.port eb t m h))
+      go (Some a) ea (Some b) eb e = both a b ea eb (lt b.magnitude.0 a.magnitude.0) refl c e
 
-  pub no_choice : choice sides clears ms ≡ Nothing → (side : Side) (m : Float) → T (allows sides side) → Memᴰ m ms → clears side m ≡ No
+  pub no_choice : choice sides clears ms ≡ None → (side : Side) (m : Float) → T (allows sides side) → Memᴰ m ms → clears side m ≡ None
   unfolding choice
   no_choice e = go s refl p refl e
     where
-      found : (b : Bool) (x y : Chosen) → cond b (Of x) (Of y) ≡ Nothing → ⊥
+      found : (b : Bool) (x y : Chosen) → cond b (Some x) (Some y) ≡ None → ⊥
       found true x y e = not_found x (sym e)
       found false x y e = not_found y (sym e)
 
-      go : (a : Choice) → s ≡ a → (b : Choice) → p ≡ b → smaller a b ≡ Nothing → (side : Side) (m : Float) → T (allows sides side) → Memᴰ m ms → clears side m ≡ No
-      go Nothing ea Nothing eb e Starboard m t h = side_none (clears Starboard) Starboard ms sides.starboard ea t m h
-      go Nothing ea Nothing eb e Port m t h = side_none (clears Port) Port ms sides.port eb t m h
-      go Nothing ea (Of b) eb e side m t h = absurd (not_found b (sym e))
-      go (Of a) ea Nothing eb e side m t h = absurd (not_found a (sym e))
-      go (Of a) ea (Of b) eb e side m t h = absurd (found (lt b.magnitude.0 a.magnitude.0) b a e)
+      go : (a : Option Chosen) → s ≡ a → (b : Option Chosen) → p ≡ b → smaller a b ≡ None → (side : Side) (m : Float) → T (allows sides side) → Memᴰ m ms → clears side m ≡ None
+      go None ea None eb e Starboard m t h = side_none (clears Starboard) Starboard ms sides.starboard ea t m h
+      go None ea None eb e Port m t h = side_none (clears Port) Port ms sides.port eb t m h
+      go None ea (Some b) eb e side m t h = absurd (not_found b (sym e))
+      go (Some a) ea None eb e side m t h = absurd (not_found a (sym e))
+      go (Some a) ea (Some b) eb e side m t h = absurd (found (lt b.magnitude.0 a.magnitude.0) b a e)

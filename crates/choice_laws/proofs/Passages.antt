@@ -1,10 +1,11 @@
 -- A list of passages clears exactly if none of them blocks; and if it clears, its passing distance is the least and its limiting contact the first with it.
+use Rattle.std.specs.Prelude.{None, Some}
 use mathlib.Core.Path.{◌≡◌, refl, sym, ap, ◌∙◌, subst}
 use mathlib.Core.Bool.{Bool, true, false, cond, not, true≢false}
 use mathlib.Core.Logic.{◌⊎◌, inl, inr, ⊎_elim}
 use mathlib.Core.List.Memᴰ
 use mathlib.Core.List.{List, [], ◌∷◌, ◌++◌, append_assoc, append-nil, Memᴰ}
-use Prim.Native.Nat.{suc, ◌+◌}
+use Prim.Native.Nat.{suc}
 use native.Mathlib.Numerals.{add-one}
 use lib.ListN.{length, length-append}
 use lib.Dec.{T}
@@ -13,48 +14,44 @@ use Rattle.laws.proofs.Bools.{holds, fails}
 use Rattle.laws.proofs.Members.{mem_last}
 use Rattle.laws.proofs.Order.{lt_not_self, le_of_lt_float, lt_le_trans, le-or-lt}
 use Rattle.motion.specs.declared.units.Distance.{Distance}
-use Rattle.manoeuvre.specs.declared.Limiting.TheVariants as Limiting
-use Rattle.passages.specs.declared.Passage.{Passage}
-use Rattle.passages.specs.declared.Passage.TheVariants.{Blocked, At}
+use Rattle.std.specs.declared.option.Option.{Option}
 use Rattle.clearing.specs.declared.Passing.{Passing}
 use Rattle.clearing.specs.declared.Tally.{Tally}
 use Rattle.clearing.specs.declared.Tally.TheVariants.{Stopped, Free, Least}
-use Rattle.clearing.specs.declared.Clearance.{Clearance}
-use Rattle.clearing.specs.declared.Clearance.TheVariants.{No, Yes}
 use Rattle.clearing.specs.Clearing.{largest, least, join, tally, cleared, clearing}
 use Rattle.choice_laws.specs.Closest.{Real, Closest}
 
 -- ---- cases of passages
-abbrev blocks : Passage → Bool
-blocks Blocked = true
-blocks (At d) = false
+abbrev blocks : Option Distance → Bool
+blocks None = true
+blocks (Some d) = false
 
-pub not_blocked : (d : Distance) → Blocked ≡ At d → ⊥
+pub not_blocked : (d : Distance) → None ≡ Some d → ⊥
 not_blocked d e = true≢false (ap blocks e)
 
 -- the distance of a passage
-abbrev pub at : Distance → Passage → Distance
-at other Blocked = other
-at other (At d) = d
+abbrev pub at : Distance → Option Distance → Distance
+at other None = other
+at other (Some d) = d
 
 le_self : (x : Float) → T (not (is_nan x)) → T (le x x)
 le_self x n = ⊎_elim (λ h. h) (λ h. absurd (lt_not_self x h)) (le-or-lt x x n n)
 
 -- ---- what a tally says of the passages that it has seen
-abbrev Says : List Passage → Tally → Type 0
-Says seen Stopped = Memᴰ Blocked seen
+abbrev Says : List (Option Distance) → Tally → Type 0
+Says seen Stopped = Memᴰ None seen
 Says seen Free = seen ≡ []
 Says seen (Least l) = Closest seen l
 
 -- one more
-module _ (seen : List Passage) (d : Distance) (real : T (not (is_nan d.0))) where
-  now : List Passage
-  now = seen ++ (At d ∷ [])
+module _ (seen : List (Option Distance)) (d : Distance) (real : T (not (is_nan d.0))) where
+  now : List (Option Distance)
+  now = seen ++ (Some d ∷ [])
 
   -- it is the closest: those seen pass farther
-  new : ((q : Passage) → Memᴰ q seen → (e : Distance) × (q ≡ At e) × T (lt d.0 e.0)) → Closest (seen ++ (At d ∷ [])) (least d (length seen))
+  new : ((q : Option Distance) → Memᴰ q seen → (e : Distance) × (q ≡ Some e) × T (lt d.0 e.0)) → Closest (seen ++ (Some d ∷ [])) (least d (length seen))
   new farther = record {
-    each = λ q m. ⊎_elim (λ old. let o = farther q old in (o.0, o.1, le_of_lt_float d.0 o.0.0 o.2)) (λ it. (d, it, le_self d.0 real)) (mem_last seen (At d) m);
+    each = λ q m. ⊎_elim (λ old. let o = farther q old in (o.0, o.1, le_of_lt_float d.0 o.0.0 o.2)) (λ it. (d, it, le_self d.0 real)) (mem_last seen (Some d) m);
     before = seen;
     after = [];
     split = refl;
@@ -63,76 +60,76 @@ module _ (seen : List Passage) (d : Distance) (real : T (not (is_nan d.0))) wher
   }
 
   -- it is not
-  old : (l : Passing) → lt d.0 l.distance.0 ≡ false → T (not (is_nan l.distance.0)) → Closest seen l → Closest (seen ++ (At d ∷ [])) l
+  old : (l : Passing) → lt d.0 l.distance.0 ≡ false → T (not (is_nan l.distance.0)) → Closest seen l → Closest (seen ++ (Some d ∷ [])) l
   old l h r c = record {
-    each = λ q m. ⊎_elim (c.each q) (λ it. (d, it, ⊎_elim (λ k. k) (λ k. absurd (fails h k)) (le-or-lt l.distance.0 d.0 r real))) (mem_last seen (At d) m);
+    each = λ q m. ⊎_elim (c.each q) (λ it. (d, it, ⊎_elim (λ k. k) (λ k. absurd (fails h k)) (le-or-lt l.distance.0 d.0 r real))) (mem_last seen (Some d) m);
     before = c.before;
-    after = c.after ++ (At d ∷ []);
-    split = ap (λ s. s ++ (At d ∷ [])) c.split ∙ append_assoc c.before (At l.distance ∷ c.after) (At d ∷ []);
+    after = c.after ++ (Some d ∷ []);
+    split = ap (λ s. s ++ (Some d ∷ [])) c.split ∙ append_assoc c.before (Some l.distance ∷ c.after) (Some d ∷ []);
     place = c.place;
     earlier = c.earlier;
   }
 
-closest_real : (seen : List Passage) (l : Passing) → Real seen → Closest seen l → T (not (is_nan l.distance.0))
-closest_real seen l real c = real l.distance (subst (λ s. Memᴰ (At l.distance) s) (sym c.split) (Memᴰ.append_right c.before (Memᴰ.head refl)))
+closest_real : (seen : List (Option Distance)) (l : Passing) → Real seen → Closest seen l → T (not (is_nan l.distance.0))
+closest_real seen l real c = real l.distance (subst (λ s. Memᴰ (Some l.distance) s) (sym c.split) (Memᴰ.append_right c.before (Memᴰ.head refl)))
 
-step : (seen : List Passage) (t : Tally) (p : Passage) → Real (seen ++ (p ∷ [])) → Says seen t → Says (seen ++ (p ∷ [])) (join t (length seen) p)
+step : (seen : List (Option Distance)) (t : Tally) (p : Option Distance) → Real (seen ++ (p ∷ [])) → Says seen t → Says (seen ++ (p ∷ [])) (join t (length seen) p)
 unfolding join
-step seen t Blocked real s = Memᴰ.append_right seen (Memᴰ.head refl)
-step seen Stopped (At d) real s = Memᴰ.append_left (At d ∷ []) s
-step seen Free (At d) real s = new seen d (real d (Memᴰ.append_right seen (Memᴰ.head refl))) (λ q m. absurd (Memᴰ.not-nil (subst (Memᴰ q) s m)))
-step seen (Least l) (At d) real s = go (lt d.0 l.distance.0) refl
+step seen t None real s = Memᴰ.append_right seen (Memᴰ.head refl)
+step seen Stopped (Some d) real s = Memᴰ.append_left (Some d ∷ []) s
+step seen Free (Some d) real s = new seen d (real d (Memᴰ.append_right seen (Memᴰ.head refl))) (λ q m. absurd (Memᴰ.not-nil (subst (Memᴰ q) s m)))
+step seen (Least l) (Some d) real s = go (lt d.0 l.distance.0) refl
   where
-    go : (b : Bool) → lt d.0 l.distance.0 ≡ b → Says (seen ++ (At d ∷ [])) (cond b (Least (least d (length seen))) (Least l))
+    go : (b : Bool) → lt d.0 l.distance.0 ≡ b → Says (seen ++ (Some d ∷ [])) (cond b (Least (least d (length seen))) (Least l))
     go true h = new seen d (real d (Memᴰ.append_right seen (Memᴰ.head refl))) (λ q m. let o = s.each q m in (o.0, o.1, lt_le_trans d.0 l.distance.0 o.0.0 (holds h) o.2))
-    go false h = old seen d (real d (Memᴰ.append_right seen (Memᴰ.head refl))) l h (closest_real seen l (λ e m. real e (Memᴰ.append_left (At d ∷ []) m)) s) s
+    go false h = old seen d (real d (Memᴰ.append_right seen (Memᴰ.head refl))) l h (closest_real seen l (λ e m. real e (Memᴰ.append_left (Some d ∷ []) m)) s) s
 
 -- all of them
-says : (seen ps : List Passage) (t : Tally) → Real (seen ++ ps) → Says seen t → Says (seen ++ ps) (tally (length seen) t ps)
+says : (seen ps : List (Option Distance)) (t : Tally) → Real (seen ++ ps) → Says seen t → Says (seen ++ ps) (tally (length seen) t ps)
 unfolding tally
 says seen [] t real s = subst (λ l. Says l t) (sym (append-nil seen)) s
 says seen (p ∷ ps) t real s =
     subst (λ l. Says l (tally (suc (length seen)) (join t (length seen) p) ps)) (append_assoc seen (p ∷ []) ps)
     (subst (λ n. Says (seen ++ (p ∷ []) ++ ps) (tally n (join t (length seen) p) ps)) (length-append seen (p ∷ []) ∙ add-one (length seen))
-    (says (seen ++ (p ∷ [])) ps (join t (length seen) p) (subst Real (sym (append_assoc seen (p ∷ []) ps)) real) (step seen t p (λ d m. real d (subst (Memᴰ (At d)) (append_assoc seen (p ∷ []) ps) (Memᴰ.append_left ps m))) s)))
+    (says (seen ++ (p ∷ [])) ps (join t (length seen) p) (subst Real (sym (append_assoc seen (p ∷ []) ps)) real) (step seen t p (λ d m. real d (subst (Memᴰ (Some d)) (append_assoc seen (p ∷ []) ps) (Memᴰ.append_left ps m))) s)))
 
-module _ (ps : List Passage) (real : Real ps) where
+module _ (ps : List (Option Distance)) (real : Real ps) where
   tallied : Says ps (tally 0 Free ps)
   tallied = says [] ps Free real refl
 
-  abbrev passes : Clearance → Bool
-  passes No = false
-  passes (Yes p) = true
+  abbrev passes : Option Passing → Bool
+  passes None = false
+  passes (Some p) = true
 
-  abbrev passing : Passing → Clearance → Passing
-  passing other No = other
-  passing other (Yes p) = p
+  abbrev passing : Passing → Option Passing → Passing
+  passing other None = other
+  passing other (Some p) = p
 
   -- it clears exactly if none blocks
-  pub blocked : clearing ps ≡ No → Memᴰ Blocked ps
+  pub blocked : clearing ps ≡ None → Memᴰ None ps
   unfolding clearing
   blocked e = go (tally 0 Free ps) tallied e
     where
-      go : (t : Tally) → Says ps t → cleared t ≡ No → Memᴰ Blocked ps
+      go : (t : Tally) → Says ps t → cleared t ≡ None → Memᴰ None ps
       go Stopped s e = s
       go Free s e = absurd (true≢false (ap passes e))
       go (Least l) s e = absurd (true≢false (ap passes e))
 
-  pub blocks_it : Memᴰ Blocked ps → clearing ps ≡ No
+  pub blocks_it : Memᴰ None ps → clearing ps ≡ None
   unfolding clearing
   blocks_it m = go (tally 0 Free ps) tallied
     where
-      go : (t : Tally) → Says ps t → cleared t ≡ No
+      go : (t : Tally) → Says ps t → cleared t ≡ None
       go Stopped s = refl
-      go Free s = absurd (Memᴰ.not-nil (subst (Memᴰ Blocked) s m))
-      go (Least l) s = let o = s.each Blocked m in absurd (not_blocked o.0 o.1)
+      go Free s = absurd (Memᴰ.not-nil (subst (Memᴰ None) s m))
+      go (Least l) s = let o = s.each None m in absurd (not_blocked o.0 o.1)
 
   -- and then nobody limits it where there are no contacts, and else the closest does
-  pub clear : (p : Passing) → clearing ps ≡ Yes p → ((ps ≡ []) × (p ≡ record { distance = record { 0 = largest }; limiting = Limiting.Nobody })) ⊎ Closest ps p
+  pub clear : (p : Passing) → clearing ps ≡ Some p → ((ps ≡ []) × (p ≡ record { distance = record { 0 = largest }; limiting = None })) ⊎ Closest ps p
   unfolding clearing
   clear p e = go (tally 0 Free ps) tallied e
     where
-      go : (t : Tally) → Says ps t → cleared t ≡ Yes p → ((ps ≡ []) × (p ≡ record { distance = record { 0 = largest }; limiting = Limiting.Nobody })) ⊎ Closest ps p
+      go : (t : Tally) → Says ps t → cleared t ≡ Some p → ((ps ≡ []) × (p ≡ record { distance = record { 0 = largest }; limiting = None })) ⊎ Closest ps p
       go Stopped s e = absurd (true≢false (sym (ap passes e)))
       go Free s e = inl (s, sym (ap (passing p) e))
       go (Least l) s e = inr (subst (Closest ps) (ap (passing p) e) s)

@@ -1,8 +1,9 @@
 -- On accepted arguments what is computed from offsets and velocities is the plain definition, and no passing distance is NaN.
+use Rattle.std.specs.Prelude.{None, Some, Err, Ok}
 use mathlib.Core.Path.{◌≡◌, refl, sym, ap, ◌∙◌, subst}
 use mathlib.Core.Bool.{Bool, true, false, not, cond}
 use mathlib.Core.List.Memᴰ
-use mathlib.Core.List.{List, [], ◌∷◌, map, map-map, Memᴰ}
+use mathlib.Core.List.{List, [], ◌∷◌, map, map-map}
 use lib.Dec.{T, lit≤, lit<}
 use lib.Ieee.{Float, nan, inf, fin, lt, le, is_nan}
 use lib.Ieee.Bits.{is_true}
@@ -16,32 +17,30 @@ use Rattle.angle.specs.Fold.{whole_fold}
 use Rattle.angle.proofs.Range.{whole_fold_range, whole_fold-fits}
 use Rattle.arguments.specs.Check as Check
 use Rattle.arguments.specs.Check.{verdict, is_direction, encounter_checks}
-use Rattle.arguments.specs.declared.Verdict.TheVariants.{Accepted, Refused}
+use Rattle.std.specs.declared.result.Result.{Result}
+use Rattle.elementary.specs.declared.error.Refusal.{Refusal}
 use Rattle.motion.specs.declared.units.Distance.{Distance}
 use Rattle.motion.specs.declared.vessel.Vessel.{Vessel}
 use Rattle.motion.specs.declared.vessel.Components.{Components}
 use Rattle.motion.specs.Vessel.{velocity, direction_of, offset, relative_velocity}
 use Rattle.relative_motion.specs.declared.approach.Approach.{Approach}
 use Rattle.relative_motion.specs.declared.approach.Approach.TheVariants.{Closing, Opening, Stationary}
-use Rattle.relative_motion.specs.declared.approach.CpaAnswer.{CpaAnswer}
-use Rattle.relative_motion.specs.declared.approach.CpaAnswer.TheVariants as CpaAnswer
 use Rattle.relative_motion.specs.Approach.{stationary_knots, relative_speed, closing_rate, time_of, time_to_go, closest, approach_from, approach, passing_in, cpa_by, cpa_answer}
 use Rattle.root.specs.Hypot.{hypot}
 use Rattle.motion_laws.specs.Sound.{AllGood, FiniteCpa}
 use Rattle.motion_laws.proofs.Sizes.{Sized, sized, direction_small}
 use Rattle.motion_laws.proofs.Finite.{not-closing, cpa_finite}
 use Rattle.passages.specs.declared.Target.{Target}
-use Rattle.passages.specs.declared.Passage.TheVariants.{Blocked, At}
 use Rattle.clearing.specs.Clearing.{altered, floor_of, passed, passed_by, passage, clearing, clears, moving, passage_at, clears_at}
 use Rattle.choice_laws.specs.Closest.{Real}
 use Rattle.choice_laws.specs.Fit.{FitVessel, FitTarget, FitTargets}
 use Rattle.choice_laws.proofs.Passages.{not_blocked, at}
 
 -- ---- the checks accept what is good
-pub accepted : (cs : List Check.Check) → AllGood cs → verdict cs Accepted ≡ Accepted
+pub accepted : (cs : List Check.Check) → AllGood cs → verdict cs (Ok tt) ≡ (Ok tt)
 unfolding verdict
 accepted [] g = refl
-accepted (c ∷ cs) g = ap (λ b. cond b (verdict cs Accepted) (Refused c.why)) (is_true c.good g.0) ∙ accepted cs g.1
+accepted (c ∷ cs) g = ap (λ b. cond b (verdict cs (Ok tt)) (Err c.why)) (is_true c.good g.0) ∙ accepted cs g.1
 
 -- ---- own craft altered
 pub altered_fit : (own : Vessel) (a : Float) → FitVessel own → Small 9 0 a → FitVessel (altered own a)
@@ -81,11 +80,11 @@ module _ (own : Vessel) (floor : Float) (t : Target) (o : FitVessel own) (f : Fi
   ahead = Closing (record { distance = record { 0 = hypot point.north point.east }; time_to_go = time_to_go (time_of position relative); bearing = direction_of point })
 
   -- a contact that does not close passes at its range
-  at_range : le Check.zero (closing_rate position relative) ≡ true → passed floor (passing_in (approach_from t.contact.range position relative)) ≡ At t.contact.range
+  at_range : le Check.zero (closing_rate position relative) ≡ true → passed floor (passing_in (approach_from t.contact.range position relative)) ≡ Some t.contact.range
   unfolding approach_from
   at_range h = go (lt (relative_speed relative) stationary_knots) refl
     where
-      go : (b : Bool) → lt (relative_speed relative) stationary_knots ≡ b → passed floor (passing_in (cond b (Stationary t.contact.range) (cond (le (time_of position relative) Check.zero) (Opening t.contact.range) ahead))) ≡ At t.contact.range
+      go : (b : Bool) → lt (relative_speed relative) stationary_knots ≡ b → passed floor (passing_in (cond b (Stationary t.contact.range) (cond (le (time_of position relative) Check.zero) (Opening t.contact.range) ahead))) ≡ Some t.contact.range
       go true m = refl
       go false m = ap (λ c. passed floor (passing_in (cond c (Opening t.contact.range) ahead))) (not-closing position relative parts m h)
 
@@ -93,27 +92,27 @@ module _ (own : Vessel) (floor : Float) (t : Target) (o : FitVessel own) (f : Fi
   unfolding passage_at moving relative_velocity
   same_passage = plain ∙ go (le Check.zero (closing_rate position relative)) refl
     where
-      go : (b : Bool) → le Check.zero (closing_rate position relative) ≡ b → passed floor (passing_in (approach_from t.contact.range position relative)) ≡ cond b (At t.contact.range) (passed floor (passing_in (approach_from t.contact.range position relative)))
+      go : (b : Bool) → le Check.zero (closing_rate position relative) ≡ b → passed floor (passing_in (approach_from t.contact.range position relative)) ≡ cond b (Some t.contact.range) (passed floor (passing_in (approach_from t.contact.range position relative)))
       go true h = at_range h
       go false h = refl
 
   -- the distance at which it passes is finite
-  distances : (d : Distance) → passage own floor t ≡ At d → T (finite d.0)
+  distances : (d : Distance) → passage own floor t ≡ Some d → T (finite d.0)
   unfolding passage
   distances d e = go (cpa_answer own t.contact t.vessel) (cpa_finite own t.contact t.vessel o.held f.contact.held f.vessel.held) e
     where
-      take : (x : Distance) → At x ≡ At d → T (finite x.0) → T (finite d.0)
+      take : (x : Distance) → Some x ≡ Some d → T (finite x.0) → T (finite d.0)
       take x e k = subst (λ y. T (finite y.0)) (ap (at d) e) k
 
-      closing : (x : Distance) (b : Bool) → cond b Blocked (At x) ≡ At d → T (finite x.0) → T (finite d.0)
+      closing : (x : Distance) (b : Bool) → cond b None (Some x) ≡ Some d → T (finite x.0) → T (finite d.0)
       closing x true e k = absurd (not_blocked d e)
       closing x false e k = take x e k
 
-      go : (c : CpaAnswer) → FiniteCpa c → passed_by floor c ≡ At d → T (finite d.0)
-      go (CpaAnswer.Of (Closing cpa)) k e = closing cpa.distance (lt cpa.distance.0 floor) e k.0
-      go (CpaAnswer.Of (Opening range)) k e = take range e k
-      go (CpaAnswer.Of (Stationary range)) k e = take range e k
-      go (CpaAnswer.Refused why) k e = absurd (not_blocked d e)
+      go : (c : Result Approach Refusal) → FiniteCpa c → passed_by floor c ≡ Some d → T (finite d.0)
+      go (Ok (Closing cpa)) k e = closing cpa.distance (lt cpa.distance.0 floor) e k.0
+      go (Ok (Opening range)) k e = take range e k
+      go (Ok (Stationary range)) k e = take range e k
+      go (Err why) k e = absurd (not_blocked d e)
 
 no_nan : (x : Float) → T (finite x) → T (not (is_nan x))
 unfolding is_nan

@@ -1,8 +1,9 @@
 -- On accepted arguments the choice that is computed is document 01's choice, by `closest_point_of_approach`: every trial is an alteration that fits, and the two ways to see whether one clears agree.
+use Rattle.std.specs.Prelude.{None, Some}
 use mathlib.Core.Path.{◌≡◌, refl, sym, ap, ◌∙◌, subst}
 use mathlib.Core.Bool.{Bool, true, false, cond}
 use mathlib.Core.List.{List, [], ◌∷◌, map, Memᴰ}
-use Prim.Native.Nat.{ℕ, ◌*◌, ◌^◌, ◌≤◌}
+use Prim.Native.Nat.{ℕ, ◌*◌, ◌^◌}
 use lib.Dec.{T, lit≤}
 use lib.IntN.{pos}
 use lib.Ieee.{Float, binary64, lt, fits, of_bits, of_int}
@@ -20,11 +21,11 @@ use Rattle.trials.specs.Trials.{trial, trials, half_turn, Limits}
 use Rattle.trials.proofs.Climbing.{is_trial_list}
 use Rattle.trials.proofs.Listed.{entry, ascending}
 use Rattle.passages.specs.declared.Target.{Target}
-use Rattle.clearing.specs.declared.Clearance.{Clearance}
+use Rattle.choice.specs.declared.Chosen.{Chosen}
+use Rattle.clearing.specs.declared.Passing.{Passing}
+use Rattle.std.specs.declared.option.Option.{Option}
 use Rattle.clearing.specs.Clearing.{floor_of, moving}
 use Rattle.choice.specs.declared.Sides.{Sides}
-use Rattle.choice.specs.declared.Choice.{Choice}
-use Rattle.choice.specs.declared.Choice.TheVariants.{Nothing, Of}
 use Rattle.choice.specs.Choice.{signed, chosen, or_first, first, smaller, side_choice, choice, trial_clears, choice_for, clears_on, smallest}
 use Rattle.choice_laws.specs.Fit.{FitVessel, FitTargets}
 use Rattle.choice_laws.proofs.Prepared.{same_clears}
@@ -53,21 +54,21 @@ signed-small Starboard m s = s
 signed-small Port m s = neg_small s
 
 -- ---- two ways to clear that agree on the list choose alike
-same_steps : (f g : Float → Clearance) (side : Side) (c : Choice) (ms : List Float) → ((m : Float) → Memᴰ m ms → f m ≡ g m) → fold (or_first f side) c ms ≡ fold (or_first g side) c ms
+same_steps : (f g : Float → Option Passing) (side : Side) (c : Option Chosen) (ms : List Float) → ((m : Float) → Memᴰ m ms → f m ≡ g m) → fold (or_first f side) c ms ≡ fold (or_first g side) c ms
 unfolding fold or_first
 same_steps f g side c [] h = refl
-same_steps f g side (Of c) (m ∷ ms) h = same_steps f g side (Of c) ms (λ x r. h x (Memᴰ.tail r))
-same_steps f g side Nothing (m ∷ ms) h = ap (λ k. fold (or_first f side) (chosen side m k) ms) (h m (Memᴰ.head refl)) ∙ same_steps f g side (chosen side m (g m)) ms (λ x r. h x (Memᴰ.tail r))
+same_steps f g side (Some c) (m ∷ ms) h = same_steps f g side (Some c) ms (λ x r. h x (Memᴰ.tail r))
+same_steps f g side None (m ∷ ms) h = ap (λ k. fold (or_first f side) (chosen side m k) ms) (h m (Memᴰ.head refl)) ∙ same_steps f g side (chosen side m (g m)) ms (λ x r. h x (Memᴰ.tail r))
 
-pub same_first : (f g : Float → Clearance) (side : Side) (ms : List Float) → ((m : Float) → Memᴰ m ms → f m ≡ g m) → first f side ms ≡ first g side ms
+pub same_first : (f g : Float → Option Passing) (side : Side) (ms : List Float) → ((m : Float) → Memᴰ m ms → f m ≡ g m) → first f side ms ≡ first g side ms
 unfolding first
-same_first f g side ms h = same_steps f g side Nothing ms h
+same_first f g side ms h = same_steps f g side None ms h
 
-same_side_lem : (permitted : Bool) (f g : Float → Clearance) (side : Side) (ms : List Float) → ((m : Float) → Memᴰ m ms → f m ≡ g m) → side_choice permitted f side ms ≡ side_choice permitted g side ms
+same_side_lem : (permitted : Bool) (f g : Float → Option Passing) (side : Side) (ms : List Float) → ((m : Float) → Memᴰ m ms → f m ≡ g m) → side_choice permitted f side ms ≡ side_choice permitted g side ms
 unfolding side_choice
-same_side_lem permitted f g side ms h = ap (λ c. cond permitted c Nothing) (same_first f g side ms h)
+same_side_lem permitted f g side ms h = ap (λ c. cond permitted c None) (same_first f g side ms h)
 
-pub same_choice : (sides : Sides) (f g : Side → Float → Clearance) (ms : List Float) → ((side : Side) (m : Float) → Memᴰ m ms → f side m ≡ g side m) → choice sides f ms ≡ choice sides g ms
+pub same_choice : (sides : Sides) (f g : Side → Float → Option Passing) (ms : List Float) → ((side : Side) (m : Float) → Memᴰ m ms → f side m ≡ g side m) → choice sides f ms ≡ choice sides g ms
 unfolding choice
 same_choice sides f g ms h =
     ap (λ s. smaller s (side_choice sides.port (f Port) Port ms)) (same_side_lem sides.starboard (f Starboard) (g Starboard) Starboard ms (h Starboard))

@@ -1,28 +1,28 @@
 -- What is said of the first trial of a list that clears, and of the smaller of two such.
-use Rattle.std.specs.Prelude.{◌≡◌, Bool, T, Float}
+use Rattle.std.specs.Prelude.{◌≡◌, Bool, T, Float, None, Some}
 use mathlib.Core.List.{List, Memᴰ}
 use Rattle.std.specs.Float.Ieee.{eq, lt}
 use Rattle.manoeuvre.specs.declared.Side.{Side}
 use Rattle.manoeuvre.specs.declared.Side.TheVariants.{Starboard, Port}
-use Rattle.clearing.specs.declared.Clearance.{Clearance}
-use Rattle.clearing.specs.declared.Clearance.TheVariants.{No, Yes}
+use Rattle.clearing.specs.declared.Passing.{Passing}
+use Rattle.std.specs.declared.option.Option.{Option}
 use Rattle.choice.specs.declared.Sides.{Sides}
 use Rattle.choice.specs.declared.Chosen.{Chosen}
 
-pub record IsFirst (clears : Float → Clearance) (side : Side) (magnitudes : List Float) (c : Chosen) : Type 0 where
+pub record IsFirst (clears : Float → Option Passing) (side : Side) (magnitudes : List Float) (c : Chosen) : Type 0 where
   pub on_side : c.side ≡ side
   pub listed : Memᴰ c.magnitude.0 magnitudes
-  pub clear : clears c.magnitude.0 ≡ Yes c.passing
-  pub least : (m : Float) → Memᴰ m magnitudes → T (lt m c.magnitude.0) → clears m ≡ No
+  pub clear : clears c.magnitude.0 ≡ Some c.passing
+  pub least : (m : Float) → Memᴰ m magnitudes → T (lt m c.magnitude.0) → clears m ≡ None
 
 abbrev pub allows : Sides → Side → Bool
 allows s Starboard = s.starboard
 allows s Port = s.port
 
 -- the smallest trial on a permitted side that clears, starboard of equal ones
-pub record IsChoice (sides : Sides) (clears : Side → Float → Clearance) (magnitudes : List Float) (c : Chosen) : Type 0 where
+pub record IsChoice (sides : Sides) (clears : Side → Float → Option Passing) (magnitudes : List Float) (c : Chosen) : Type 0 where
   pub permitted : T (allows sides c.side)
   pub listed : Memᴰ c.magnitude.0 magnitudes
-  pub clear : clears c.side c.magnitude.0 ≡ Yes c.passing
-  pub least : (side : Side) (m : Float) → T (allows sides side) → Memᴰ m magnitudes → T (lt m c.magnitude.0) → clears side m ≡ No
-  pub starboard : (m : Float) → T sides.starboard → Memᴰ m magnitudes → T (eq m c.magnitude.0) → (clears Starboard m ≡ No → ⊥) → c.side ≡ Starboard
+  pub clear : clears c.side c.magnitude.0 ≡ Some c.passing
+  pub least : (side : Side) (m : Float) → T (allows sides side) → Memᴰ m magnitudes → T (lt m c.magnitude.0) → clears side m ≡ None
+  pub starboard : (m : Float) → T sides.starboard → Memᴰ m magnitudes → T (eq m c.magnitude.0) → (clears Starboard m ≡ None → ⊥) → c.side ≡ Starboard

@@ -148,51 +148,62 @@ unlike_none : (s : Bool) → s ≡ unlike false s
 unlike_none true = refl
 unlike_none false = refl
 
-module _ (x a : Float) (t : T (fits binary64 x)) (e : a ≡ abs x) where
-  domain : in_domain x ≡ le a largest
+-- the test and the units of its absolute value
+module _ (x a : Float) (t : T (fits binary64 a)) (e : a ≡ abs x) where
+  pub inside_is : {b : Bool} → le a largest ≡ b → in_domain x ≡ b
   unfolding in_domain
-  domain = ap (λ z. le z largest) (sym e)
+  inside_is l = ap (λ z. le z largest) (sym e) ∙ l
 
-  pub asks_units : le a largest ≡ true → T (in_domain a) × (sign a ≡ false)
+  within : le a largest ≡ true → T (in_domain a)
   unfolding in_domain
-  asks_units l = (holds (ap (λ z. le z largest) (ap abs e ∙ abs-abs x ∙ sym e) ∙ l), ap sign e ∙ abs-sign x)
+  within l = holds (ap (λ z. le z largest) (ap abs e ∙ abs-abs x ∙ sym e) ∙ l)
 
-  pub small-rest : le a largest ≡ true → (n : ℕ) → n ≡ scaled a → rest n ≤ 2 ^ 58
-  small-rest l n f = less (rest n) (subst (λ z. 5 * rest z ≤ 4 * one) (sym (f ∙ ap scaled e ∙ scaled-abs x)) (reduced_float x t (holds (domain ∙ l))).small)
+  clear : sign a ≡ false
+  clear = ap sign e ∙ abs-sign x
+
+  pub castable : le a largest ≡ true → T (lt (fin true 1 (pos 0)) (mul binary64 a (fin false 1 (pos 58)))) × T (lt (mul binary64 a (fin false 1 (pos 58))) (fin false 1 (pos 64)))
+  castable l = units_asks a t (within l) clear
+
+  pub units_are : le a largest ≡ true → (n : ℕ) → n ≡ to_unsigned 64 (mul binary64 a (fin false 1 (pos 58))) → (in_domain x ≡ true) × (n ≡ scaled x) × (n ≤ 2 ^ 62)
+  units_are l n g = let u = units_is a t (within l) clear n g in (inside_is l, u.0 ∙ ap scaled e ∙ scaled-abs x, u.1)
+
+module _ (x : Float) (t : T (fits binary64 x)) (d : in_domain x ≡ true) (n : ℕ) (f : n ≡ scaled x) where
+  pub small-rest : rest n ≤ 2 ^ 58
+  small-rest = less (rest n) (subst (λ z. 5 * rest z ≤ 4 * one) (sym f) (reduced_float x t (holds d)).small)
     where
       less : (r : ℕ) → 5 * r ≤ 4 * 2 ^ 58 → r ≤ 2 ^ 58
       less r h = omega arith
 
-  pub sin-tiny : lt a tiny ≡ true → x ≡ sin x
-  unfolding sin
-  sin-tiny p = rw (ap (λ z. lt z tiny) (sym e) ∙ p) refl
+  pub cos_inside : (y : Float) → y ≡ from_units (turned_minus 1 n) (turned_units 1 n) → y ≡ cos x
+  unfolding cos
+  cos_inside y h = rw (d, ← f) h
 
-  module _ (n : ℕ) (y : Float) (f : n ≡ scaled a) (l : le a largest ≡ true) where
-    same : n ≡ scaled x
-    same = f ∙ ap scaled e ∙ scaled-abs x
+  module _ (a y : Float) (e : a ≡ abs x) (p : lt a tiny ≡ false) (h : y ≡ from_units (turned_minus 0 n) (turned_units 0 n)) where
+    not_tiny : lt (abs x) tiny ≡ false
+    not_tiny = ap (λ z. lt z tiny) (sym e) ∙ p
 
-    signed : (s : Bool) → sign x ≡ s → y ≡ from_units (turned_minus 0 n) (turned_units 0 n) → lt a tiny ≡ false → cond s (neg y) y ≡ sin x
+    signed : (s : Bool) → sign x ≡ s → cond s (neg y) y ≡ sin x
     unfolding sin
-    signed s g h p = rw (ap (λ z. lt z tiny) (sym e) ∙ p, domain ∙ l, g, ← same) (go s)
+    signed s g = rw (not_tiny, d, g, ← f) (go s)
       where
         go : (s : Bool) → cond s (neg y) y ≡ from_units (unlike s (turned_minus 0 n)) (turned_units 0 n)
         go true = ap neg h ∙ neg_from (turned_minus 0 n) (turned_units 0 n) ∙ ap (λ b. from_units b (turned_units 0 n)) (unlike_true (turned_minus 0 n))
         go false = h ∙ ap (λ b. from_units b (turned_units 0 n)) (unlike_none (turned_minus 0 n))
 
-    pub sin-negative : y ≡ from_units (turned_minus 0 n) (turned_units 0 n) → lt a tiny ≡ false → lt x zero_float ≡ true → neg y ≡ sin x
-    sin-negative h p q = signed true (sign_set x q) h p
+    pub sin-negative : lt x zero_float ≡ true → neg y ≡ sin x
+    sin-negative q = signed true (sign_set x q)
 
-    pub sin_positive : y ≡ from_units (turned_minus 0 n) (turned_units 0 n) → lt a tiny ≡ false → lt x zero_float ≡ false → y ≡ sin x
-    sin_positive h p q = signed false (sign_clear x t (in-domain x t (holds (domain ∙ l))).0 (ap (λ z. lt z tiny) (sym e) ∙ p) q) h p
+    pub sin_positive : lt x zero_float ≡ false → y ≡ sin x
+    sin_positive q = signed false (sign_clear x t (in-domain x t (holds d)).0 not_tiny q)
 
-    pub cos_inside : y ≡ from_units (turned_minus 1 n) (turned_units 1 n) → y ≡ cos x
-    unfolding cos
-    cos_inside h = rw (domain ∙ l, ← same) h
+pub sin-tiny : (x a : Float) → a ≡ abs x → lt a tiny ≡ true → x ≡ sin x
+unfolding sin
+sin-tiny x a e p = rw (ap (λ z. lt z tiny) (sym e) ∙ p) refl
 
-  pub sin_outside : lt a tiny ≡ false → le a largest ≡ false → div binary64 zero_float zero_float ≡ sin x
-  unfolding sin
-  sin_outside p l = rw (ap (λ z. lt z tiny) (sym e) ∙ p, domain ∙ l) zero_by_zero
+pub sin_outside : (x a : Float) → a ≡ abs x → lt a tiny ≡ false → in_domain x ≡ false → div binary64 zero_float zero_float ≡ sin x
+unfolding sin
+sin_outside x a e p d = rw (ap (λ z. lt z tiny) (sym e) ∙ p, d) zero_by_zero
 
-  pub cos_outside : le a largest ≡ false → div binary64 zero_float zero_float ≡ cos x
-  unfolding cos
-  cos_outside l = rw (domain ∙ l) zero_by_zero
+pub cos_outside : (x : Float) → in_domain x ≡ false → div binary64 zero_float zero_float ≡ cos x
+unfolding cos
+cos_outside x d = rw d zero_by_zero

@@ -4,34 +4,35 @@
 // a sum of the crate `series`, is rounded to a multiple of 2^-53. Every answer is within 2^-48 of the exact sum: proofs/Bound.
 #![tactic(auto)]
 
-ghost use Rattle.std.specs.Prelude.{◌≡◌, ◌^◌, ◌≤◌, false, T};
-ghost use Rattle.laws.specs.Units as Size;
+ghost use Rattle.std.specs.Prelude.{◌≡◌, ◌^◌, ◌≤◌, true, false, MatchOption};
 ghost use Rattle.series.specs.Angle as Angle;
 ghost use Rattle.series.specs.Units.{one, rest, turned_minus, turned_units};
 ghost use Rattle.circular.specs.Sine as Sine;
 
+use series::GRID;
+
 // The largest angle, and the angle below which the sine is the angle: 2^-17.
 const LARGEST: f64 = 16.0;
 
-const TINY: f64 = 7.62939453125e-6;
+pub const TINY: f64 = 7.62939453125e-6;
 
 // One in units, as an f64: 2^58.
-const ONE: f64 = 288230376151711744.0;
-
-// 2^-53.
-const GRID: f64 = 1.1102230246251565e-16;
+pub const ONE: f64 = 288230376151711744.0;
 
 // Half pi, and half of it, in whole units.
 const HALF_PI: u64 = 452751216129820177;
 
 const QUARTER_PI: u64 = 226375608064910088;
 
-// The units in an angle from 0 to 16, cut to a whole number.
-fn units(a: f64) -> u64
-    requires { T (Sine.in_domain a) × (Size.sign a ≡ false) }
-    ensures { (result ≡ Sine.scaled a) × (result ≤ 2 ^ 62) }
+// The units in the size of a number of at most 16, cut to a whole number; none for any other.
+fn units(x: f64) -> Option<u64>
+    ensures { MatchOption result (Sine.in_domain x ≡ false) (λ n. (Sine.in_domain x ≡ true) × (n ≡ Sine.scaled x) × (n ≤ 2 ^ 62)) }
 {
-    std::num::truncating_f64_to_u64(a * ONE)
+    let a = math::abs(x);
+    if a <= LARGEST {
+        return Some(std::num::truncating_f64_to_u64(a * ONE));
+    }
+    None
 }
 
 // How many half pis are nearest to n units. Half pi is HALF_PI units and nearly 2/3 of a unit more, so that a remainder
@@ -56,7 +57,8 @@ fn distance(a: u64, b: u64) -> u64
     if a < b { b - a } else { a - b }
 }
 
-// v units as an f64, to the nearest multiple of 2^-53, with the sign set or not.
+// v units as an f64, to the nearest multiple of 2^-53, with the sign set or not. `math::multiple`
+// would test the number that is known here to be small: 1 instruction in 100 of a sine.
 fn from_units(minus: bool, v: u64) -> f64
     requires { v ≤ 2 ^ 58 }
     ensures { result ≡ Sine.from_units minus v }
@@ -85,12 +87,11 @@ fn turned(n: u64, more: u64) -> f64
 pub fn sin(x: f64) -> f64
     ensures { result ≡ Sine.sin x }
 {
-    let a = math::abs(x);
-    if a < TINY {
+    if math::abs(x) < TINY {
         return x;
     }
-    if a <= LARGEST {
-        let y = turned(units(a), 0);
+    if let Some(n) = units(x) {
+        let y = turned(n, 0);
         return if x < 0.0 { -y } else { y };
     }
     0.0 / 0.0
@@ -100,9 +101,8 @@ pub fn sin(x: f64) -> f64
 pub fn cos(x: f64) -> f64
     ensures { result ≡ Sine.cos x }
 {
-    let a = math::abs(x);
-    if a <= LARGEST {
-        return turned(units(a), 1);
+    if let Some(n) = units(x) {
+        return turned(n, 1);
     }
     0.0 / 0.0
 }

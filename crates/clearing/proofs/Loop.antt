@@ -1,4 +1,5 @@
 -- The loop over the contacts: each turn joins one more of those that are left, and one that blocks decides, wherever it stands.
+use Rattle.std.specs.Prelude.{None, Some}
 use mathlib.Core.Path.{◌≡◌, refl, sym, ap, ◌∙◌}
 use mathlib.Core.Bool.{true, false, true≢false}
 use mathlib.Core.List.{List, [], ◌∷◌, map}
@@ -9,18 +10,18 @@ use native.Mathlib.Omega.{arith}
 use lib.ListN.{length, get_or, take}
 use lib.Seq.{slice, slice-cons, slice_empty}
 use Rattle.room.proofs.Counts.{take-held}
-use Rattle.passages.specs.declared.Passage.{Passage}
-use Rattle.passages.specs.declared.Passage.TheVariants.{Blocked, At}
+use Rattle.std.specs.declared.option.Option.{Option}
+use Rattle.motion.specs.declared.units.Distance.{Distance}
 use Rattle.clearing.specs.declared.Tally.{Tally}
 use Rattle.clearing.specs.declared.Tally.TheVariants.{Stopped, Free, Least}
 use Rattle.clearing.specs.Clearing.{join, tally, cleared, clearing, is_blocked, is_stopped}
 
 -- one that blocks decides
-pub stays_stopped : (place : ℕ) (ps : List Passage) → tally place Stopped ps ≡ Stopped
+pub stays_stopped : (place : ℕ) (ps : List (Option Distance)) → tally place Stopped ps ≡ Stopped
 unfolding tally join
 stays_stopped place [] = refl
-stays_stopped place (Blocked ∷ ps) = stays_stopped (suc place) ps
-stays_stopped place (At d ∷ ps) = stays_stopped (suc place) ps
+stays_stopped place (None ∷ ps) = stays_stopped (suc place) ps
+stays_stopped place (Some d ∷ ps) = stays_stopped (suc place) ps
 
 pub no : {P : Type 0} → false ≡ true → P
 no e = absurd (true≢false (sym e))
@@ -30,16 +31,16 @@ is_stopped_lem Stopped h = refl
 is_stopped_lem Free h = absurd (true≢false (sym h))
 is_stopped_lem (Least l) h = absurd (true≢false (sym h))
 
-is_blocked_lem : (p : Passage) → is_blocked p ≡ true → p ≡ Blocked
-is_blocked_lem Blocked h = refl
-is_blocked_lem (At d) h = absurd (true≢false (sym h))
+is_blocked_lem : (p : Option Distance) → is_blocked p ≡ true → p ≡ None
+is_blocked_lem None h = refl
+is_blocked_lem (Some d) h = absurd (true≢false (sym h))
 
-module _ {A : Type 0} (f : A → Passage) (l : List A) (n : ℕ) where
+module _ {A : Type 0} (f : A → Option Distance) (l : List A) (n : ℕ) where
   -- what is still to be joined, from i on
   abbrev pub left : ℕ → Tally → Tally
   left i t = tally i t (map f (slice i n l))
 
-  pub step : (i : ℕ) (t next : Tally) (p : Passage) (d : A) → i < n → n ≤ length l → p ≡ f (get_or l i d) → next ≡ join t i p → left (i + 1) next ≡ left i t
+  pub step : (i : ℕ) (t next : Tally) (p : Option Distance) (d : A) → i < n → n ≤ length l → p ≡ f (get_or l i d) → next ≡ join t i p → left (i + 1) next ≡ left i t
   unfolding tally
   step i t next p d h k e q = rw (add-one, slice-cons i n l d h k) (ap (λ t. tally (suc i) t (map f (slice (suc i) n l))) (q ∙ ap (join t i) e))
 
@@ -51,7 +52,7 @@ module _ {A : Type 0} (f : A → Passage) (l : List A) (n : ℕ) where
   stopped i t h = ap (left i) (is_stopped_lem t h) ∙ stays_stopped i (map f (slice i n l))
 
   -- one that blocks, at i, stops a tally from any place j before
-  pub one_blocks : (i : ℕ) (d : A) (p : Passage) → i < n → n ≤ length l → p ≡ f (get_or l i d) → is_blocked p ≡ true → left 0 Free ≡ Stopped
+  pub one_blocks : (i : ℕ) (d : A) (p : Option Distance) → i < n → n ≤ length l → p ≡ f (get_or l i d) → is_blocked p ≡ true → left 0 Free ≡ Stopped
   unfolding join
   one_blocks i d p h k e b = from i 0 (none i) Free
     where

@@ -1,27 +1,25 @@
 -- What the steps of clearing owe: one more contact, and what they come to.
+use Rattle.std.specs.Prelude.{None, Some}
 use mathlib.Core.Path.{◌≡◌, sym, ap, ◌∙◌}
 use mathlib.Core.Bool.{Bool, true, false, cond}
 use Prim.Native.Nat.{ℕ}
 use lib.Ieee.{lt}
 use Rattle.motion.specs.declared.units.Distance.{Distance}
-use Rattle.passages.specs.declared.Passage.{Passage}
-use Rattle.passages.specs.declared.Passage.TheVariants.{Blocked, At}
+use Rattle.std.specs.declared.option.Option.{Option}
 use Rattle.clearing.specs.declared.Passing.{Passing}
 use Rattle.clearing.specs.declared.Tally.{Tally}
 use Rattle.clearing.specs.declared.Tally.TheVariants.{Stopped, Free, Least}
-use Rattle.clearing.specs.declared.Clearance.TheVariants.{Yes}
 use Rattle.clearing.specs.Clearing.{largest, least, join, cleared}
-use Rattle.manoeuvre.specs.declared.Limiting.TheVariants as Limiting
 
 -- ---- one more contact
-module _ (t : Tally) (place : ℕ) (p : Passage) where
-  pub stopped : p ≡ Blocked → Stopped ≡ join t place p
+module _ (t : Tally) (place : ℕ) (p : Option Distance) where
+  pub stopped : p ≡ None → Stopped ≡ join t place p
   unfolding join
   stopped e = ap (join t place) (sym e)
 
-  module _ (d : Distance) (at : p ≡ At d) where
-    of : (u : Tally) → t ≡ u → join u place (At d) ≡ join t place p
-    of u e = ap (λ u. join u place (At d)) (sym e) ∙ ap (join t place) (sym at)
+  module _ (d : Distance) (at : p ≡ Some d) where
+    of : (u : Tally) → t ≡ u → join u place (Some d) ≡ join t place p
+    of u e = ap (λ u. join u place (Some d)) (sym e) ∙ ap (join t place) (sym at)
 
     pub stays_stopped : t ≡ Stopped → Stopped ≡ join t place p
     unfolding join
@@ -43,8 +41,8 @@ module _ (t : Tally) (place : ℕ) (p : Passage) where
       not_closer h = by false h
 
 -- ---- what they come to
-pub free : (t : Tally) → t ≡ Free → Yes (record { distance = record { 0 = largest }; limiting = Limiting.Nobody }) ≡ cleared t
+pub free : (t : Tally) → t ≡ Free → Some (record { distance = record { 0 = largest }; limiting = None }) ≡ cleared t
 free t e = ap cleared (sym e)
 
-pub passes_least : (t : Tally) (l : Passing) → t ≡ Least l → Yes l ≡ cleared t
+pub passes_least : (t : Tally) (l : Passing) → t ≡ Least l → Some l ≡ cleared t
 passes_least t l e = ap cleared (sym e)

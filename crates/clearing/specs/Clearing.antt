@@ -1,5 +1,5 @@
 -- Whether the traffic is clear on a course (avoidance.rs, `clears`; 01, 'Trial list': 'a trial clears if no contact, by `closest_point_of_approach` on the altered course, closes under desired minus 1e-9. A contact's passing distance is its CPA on that course if closing there, else its present range. The limiting contact is the first with the least passing distance').
-use Rattle.std.specs.Prelude.{Bool, true, false, cond, List, [], ◌∷◌, map, ℕ, suc, take, Float}
+use Rattle.std.specs.Prelude.{Bool, true, false, cond, List, [], ◌∷◌, map, ℕ, suc, take, Float, None, Some}
 use Rattle.std.specs.Float.{binary64}
 use Rattle.std.specs.Float.Ieee.{lt, of_bits}
 use Rattle.laws.specs.Ops.{◌⊕◌, ◌⊖◌}
@@ -7,19 +7,15 @@ use Rattle.angle.specs.Fold.{whole_fold}
 use Rattle.motion.specs.declared.units.Distance.{Distance}
 use Rattle.motion.specs.declared.vessel.Vessel.{Vessel}
 use Rattle.motion.specs.declared.vessel.Components.{Components}
-use Rattle.manoeuvre.specs.declared.Limiting.TheVariants as Limiting
+use Rattle.std.specs.declared.option.Option.{Option}
 use Rattle.passages.specs.declared.Target.{Target}
 use Rattle.passages.specs.declared.Moving.{Moving}
 pub use Rattle.passages.specs.Passages.{passed, passed_by}
 unfoldable pub use Rattle.passages.specs.Passages.{passage, moving, passage_at}
 use Rattle.clearing.specs.declared.Scene.{Scene}
-use Rattle.passages.specs.declared.Passage.{Passage}
-use Rattle.passages.specs.declared.Passage.TheVariants.{Blocked, At}
 use Rattle.clearing.specs.declared.Passing.{Passing}
 use Rattle.clearing.specs.declared.Tally.{Tally}
 use Rattle.clearing.specs.declared.Tally.TheVariants.{Stopped, Free, Least}
-use Rattle.clearing.specs.declared.Clearance.{Clearance}
-use Rattle.clearing.specs.declared.Clearance.TheVariants.{No, Yes}
 
 -- 1e-9: an exact answer lands on the distance that is wanted
 abbrev pub tolerance : Float
@@ -40,37 +36,37 @@ floor_of desired = desired.0 ⊖ tolerance
 -- ---- all contacts: the first that passes closest, by its place in the list
 
 abbrev pub least : Distance → ℕ → Passing
-least d place = record { distance = d; limiting = Limiting.Contact place }
+least d place = record { distance = d; limiting = Some place }
 
-unfoldable pub join : Tally → ℕ → Passage → Tally
-join tally place Blocked = Stopped
-join Stopped place (At d) = Stopped
-join Free place (At d) = Least (least d place)
-join (Least l) place (At d) = cond (lt d.0 l.distance.0) (Least (least d place)) (Least l)
+unfoldable pub join : Tally → ℕ → Option Distance → Tally
+join tally place None = Stopped
+join Stopped place (Some d) = Stopped
+join Free place (Some d) = Least (least d place)
+join (Least l) place (Some d) = cond (lt d.0 l.distance.0) (Least (least d place)) (Least l)
 
 -- over a list, from a place on
-unfoldable pub tally : ℕ → Tally → List Passage → Tally
+unfoldable pub tally : ℕ → Tally → List (Option Distance) → Tally
 tally place t [] = t
 tally place t (p ∷ ps) = tally (suc place) (join t place p) ps
 
 -- the largest f64 and nobody without contacts
-abbrev pub cleared : Tally → Clearance
-cleared Stopped = No
-cleared Free = Yes (record { distance = record { 0 = largest }; limiting = Limiting.Nobody })
-cleared (Least l) = Yes l
+abbrev pub cleared : Tally → Option Passing
+cleared Stopped = None
+cleared Free = Some (record { distance = record { 0 = largest }; limiting = None })
+cleared (Least l) = Some l
 
-unfoldable pub clearing : List Passage → Clearance
+unfoldable pub clearing : List (Option Distance) → Option Passing
 clearing ps = cleared (tally 0 Free ps)
 
 -- whether own craft, altered, clears every target
-unfoldable pub clears : Vessel → Float → List Target → Distance → Clearance
+unfoldable pub clears : Vessel → Float → List Target → Distance → Option Passing
 clears own alteration targets desired = clearing (map (passage (altered own alteration) (floor_of desired)) targets)
 
 -- ---- what is computed: by `passage_at` of each contact
 
-abbrev pub is_blocked : Passage → Bool
-is_blocked Blocked = true
-is_blocked (At d) = false
+abbrev pub is_blocked : Option Distance → Bool
+is_blocked None = true
+is_blocked (Some d) = false
 
 abbrev pub is_stopped : Tally → Bool
 is_stopped Stopped = true
@@ -81,5 +77,5 @@ is_stopped (Least l) = false
 unfoldable pub movings : Scene → List Moving
 movings s = take s.count s.list
 
-unfoldable pub clears_at : Components → Float → List Moving → Clearance
+unfoldable pub clears_at : Components → Float → List Moving → Option Passing
 clears_at own floor ms = clearing (map (passage_at own floor) ms)

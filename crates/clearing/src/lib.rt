@@ -7,15 +7,13 @@
 // or a division, that they may close under the distance. A contact blocks only if it is worked out to; where no suspect does, all are worked out.
 #![tactic(auto)]
 
-ghost use Rattle.std.specs.Prelude.{◌≡◌, true};
-ghost use Rattle.clearing.specs.declared.Clearance.TheVariants.{No};
+ghost use Rattle.std.specs.Prelude.{◌≡◌, true, None};
 ghost use Rattle.clearing.specs.Clearing as Spec;
 
-use manoeuvre::Limiting;
 use motion::units::Distance;
 use motion::vessel;
 use motion::vessel::Components;
-use passages::{Moving, Passage, passage_of};
+use passages::{Moving, passage_of};
 use room::MAX_CONTACTS;
 
 // How many times the square of the wanted distance a suspect's may be.
@@ -32,7 +30,7 @@ pub struct Scene {
 #[derive(Clone, Copy)]
 pub struct Passing {
     pub distance: Distance,
-    pub limiting: Limiting,
+    pub limiting: Option<usize>,
 }
 
 // What the contacts so far come to: one blocks the course; there are none; the first that passes closest.
@@ -43,21 +41,15 @@ pub enum Tally {
     Least(Passing),
 }
 
-#[derive(Clone, Copy)]
-pub enum Clearance {
-    No,
-    Yes(Passing),
-}
-
-fn joined(tally: Tally, place: usize, p: Passage) -> Tally
+fn joined(tally: Tally, place: usize, p: Option<Distance>) -> Tally
     ensures { result ≡ Spec.join tally place p }
 {
     match p {
-        Passage::Blocked => Tally::Stopped,
-        Passage::At(d) => {
+        None => Tally::Stopped,
+        Some(d) => {
             let next = Passing {
                 distance: d,
-                limiting: Limiting::Contact(place),
+                limiting: Some(place),
             };
             match tally {
                 Tally::Stopped => Tally::Stopped,
@@ -83,16 +75,16 @@ fn is_stopped(tally: Tally) -> bool
     }
 }
 
-fn cleared(tally: Tally) -> Clearance
+fn cleared(tally: Tally) -> Option<Passing>
     ensures { result ≡ Spec.cleared tally }
 {
     match tally {
-        Tally::Stopped => Clearance::No,
-        Tally::Free => Clearance::Yes(Passing {
+        Tally::Stopped => None,
+        Tally::Free => Some(Passing {
             distance: Distance(1.7976931348623157e308),
-            limiting: Limiting::Nobody,
+            limiting: None,
         }),
-        Tally::Least(least) => Clearance::Yes(least),
+        Tally::Least(least) => Some(least),
     }
 }
 
@@ -108,18 +100,18 @@ fn is_suspect(own: Components, m: Moving, square: f64) -> bool {
     (rate < 0.0) & (cross * cross < square * speed)
 }
 
-fn is_blocked(p: Passage) -> bool
+fn is_blocked(p: Option<Distance>) -> bool
     ensures { result ≡ Spec.is_blocked p }
 {
     match p {
-        Passage::Blocked => true,
-        Passage::At(d) => false,
+        None => true,
+        Some(d) => false,
     }
 }
 
 // Whether one of the suspects blocks the course.
 fn suspect_blocks(own: Components, scene: Scene, floor: f64) -> bool
-    ensures { result ≡ true → Spec.clears_at own floor (Spec.movings scene) ≡ No }
+    ensures { result ≡ true → Spec.clears_at own floor (Spec.movings scene) ≡ None }
 {
     let count = room::held(scene.count);
     let square = floor * floor * DOUBT;
@@ -137,7 +129,7 @@ fn suspect_blocks(own: Components, scene: Scene, floor: f64) -> bool
 }
 
 // All contacts, each worked out.
-fn tallied(own: Components, scene: Scene, floor: f64) -> Clearance
+fn tallied(own: Components, scene: Scene, floor: f64) -> Option<Passing>
     ensures { result ≡ Spec.clears_at own floor (Spec.movings scene) }
 {
     let count = room::held(scene.count);
@@ -147,7 +139,7 @@ fn tallied(own: Components, scene: Scene, floor: f64) -> Clearance
         let m = scene.list[i];
         tally = joined(tally, i, passage_of(own, m, floor));
         if is_stopped(tally) {
-            return Clearance::No;
+            return None;
         }
         i += 1;
     }
@@ -155,11 +147,11 @@ fn tallied(own: Components, scene: Scene, floor: f64) -> Clearance
 }
 
 // With own craft at a velocity, whether no contact of the scene closes under `floor`.
-pub fn clears(own: Components, scene: Scene, floor: f64) -> Clearance
+pub fn clears(own: Components, scene: Scene, floor: f64) -> Option<Passing>
     ensures { result ≡ Spec.clears_at own floor (Spec.movings scene) }
 {
     if suspect_blocks(own, scene, floor) {
-        return Clearance::No;
+        return None;
     }
     tallied(own, scene, floor)
 }

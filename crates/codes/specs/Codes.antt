@@ -1,5 +1,5 @@
 -- Arguments of the C exports from codes and lists of floats.
-use Rattle.std.specs.Prelude.{cond, ℕ, eqb, Float}
+use Rattle.std.specs.Prelude.{cond, ℕ, eqb, Float, None, Some}
 use Rattle.std.specs.Float.{binary64}
 use Rattle.std.specs.Float.Ieee.{of_bits}
 use Rattle.words.specs.Words.{vessel}
@@ -9,8 +9,8 @@ use Rattle.situation.specs.declared.party.VesselCategory.TheVariants.{PowerDrive
 use Rattle.situation.specs.declared.party.Visibility.{Visibility}
 use Rattle.situation.specs.declared.party.Visibility.TheVariants.{InSight, Restricted}
 use Rattle.situation.specs.declared.party.Party.{Party}
-use Rattle.situation.specs.declared.party.Perhaps.{Perhaps}
-use Rattle.situation.specs.declared.party.Perhaps.TheVariants.{Unknown, Known}
+use Rattle.std.specs.declared.option.Option.{Option}
+use Rattle.motion.specs.declared.units.Direction.{Direction}
 
 abbrev pub zero : Float
 zero = of_bits binary64 0
@@ -28,8 +28,8 @@ category code =
 unfoldable pub visibility : ℕ → Visibility
 visibility code = cond (eqb code 0) InSight Restricted
 
-unfoldable pub perhaps : ℕ → Float → Perhaps
-perhaps known degrees = cond (eqb known 0) Unknown (Known (record { 0 = degrees }))
+unfoldable pub perhaps : ℕ → Float → Option Direction
+perhaps known degrees = cond (eqb known 0) None (Some (record { 0 = degrees }))
 
 unfoldable pub party : ℕ → ℕ → Float → Float → Float → Party
 party code known course speed heading = record { motion = vessel course speed; heading = perhaps known heading; category = category code }

@@ -5,7 +5,7 @@ ghost use Rattle.std.specs.Prelude.{◌≡◌, get_or};
 ghost use Rattle.codes.specs.Codes as Spec;
 
 use motion::units::Direction;
-use situation::party::{Party, Perhaps, Tack, VesselCategory, Visibility};
+use situation::party::{Party, Tack, VesselCategory, Visibility};
 
 // A float of a list, 0 where there is none.
 pub fn float_at(floats: &[f64], i: usize) -> f64
@@ -72,13 +72,13 @@ pub fn visibility(code: u32) -> Visibility
 }
 
 // A direction, unknown where `known` is 0.
-pub fn perhaps(known: u32, degrees: f64) -> Perhaps
+pub fn perhaps(known: u32, degrees: f64) -> Option<Direction>
     ensures { result ≡ Spec.perhaps known degrees }
 {
     if known == 0 {
-        return Perhaps::Unknown;
+        return None;
     }
-    Perhaps::Known(Direction(degrees))
+    Some(Direction(degrees))
 }
 
 // A vessel in an encounter, with a heading where `known` is not 0.
@@ -89,7 +89,7 @@ pub fn party(code: u32, known: u32, course: f64, speed: f64, heading: f64) -> Pa
     let heads = perhaps(known, heading);
     let what = category(code);
     Party {
-        motion: motion,
+        motion,
         heading: heads,
         category: what,
     }

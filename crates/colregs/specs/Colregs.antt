@@ -1,12 +1,12 @@
 -- COLREGs 1972, Rules 12 to 19, over the facts of a situation: one definition for each rule, then the order in which they apply. Where kinavis-colregs departs from a rule, the definition does what it does and says so ('departs'); docs/DIFFERENCES.md has an input for each.
-use Rattle.std.specs.Prelude.{Bool, true, false, ◌&&◌, ◌||◌, not, cond, List, [], ◌∷◌, ◌++◌, Float}
+use Rattle.std.specs.Prelude.{Bool, true, false, ◌&&◌, ◌||◌, not, cond, List, [], ◌∷◌, ◌++◌, Float, Err, Ok}
 use Rattle.std.specs.Float.{binary64}
 use Rattle.std.specs.Float.Ieee.{lt, le, of_bits}
 use Rattle.laws.specs.Ops.{◌⊕◌}
 use Rattle.math.specs.Sign.{abs}
 use Rattle.angle.specs.Fold.{zero}
-use Rattle.arguments.specs.declared.Verdict.{Verdict}
-use Rattle.arguments.specs.declared.Verdict.TheVariants as Verdict
+use Rattle.std.specs.declared.result.Result.{Result}
+use Rattle.elementary.specs.declared.error.Refusal.{Refusal}
 use Rattle.arguments.specs.Check.{verdict}
 use Rattle.situation.specs.declared.party.Tack.{Tack}
 use Rattle.situation.specs.declared.party.Tack.TheVariants as Tack
@@ -29,8 +29,6 @@ use Rattle.colregs.specs.declared.answer.Rule.{Rule}
 use Rattle.colregs.specs.declared.answer.Rule.TheVariants.{Rule12, Rule13, Rule14, Rule15, Rule17, Rule18, Rule19}
 use Rattle.colregs.specs.declared.answer.PermittedManoeuvre.{PermittedManoeuvre}
 use Rattle.colregs.specs.declared.answer.Ruling.{Ruling}
-use Rattle.colregs.specs.declared.answer.RulingAnswer.{RulingAnswer}
-use Rattle.colregs.specs.declared.answer.RulingAnswer.TheVariants as RulingAnswer
 use Rattle.colregs.specs.declared.answer.Decision.{Decision}
 use Rattle.situation.specs.Arguments.{quarter_turn, situation_checks, config_checks}
 use Rattle.facts.specs.Facts.{facts_of}
@@ -304,9 +302,9 @@ unfoldable pub ruling_of : ColregsConfig → Facts → Ruling
 ruling_of config f = let e = encounter_of config f in ruling_for e (decided (clauses e f)) f.relative
 
 -- ---- the answer, by the verdict on the arguments
-abbrev pub ruling_by : Verdict → Ruling → RulingAnswer
-ruling_by Verdict.Accepted r = RulingAnswer.Of r
-ruling_by (Verdict.Refused why) r = RulingAnswer.Refused why
+abbrev pub ruling_by : Result (Unit {0}) Refusal → Ruling → Result Ruling Refusal
+ruling_by (Ok tt) r = Ok r
+ruling_by (Err why) r = Err why
 
-unfoldable pub ruling_answer : Situation → ColregsConfig → RulingAnswer
-ruling_answer s config = ruling_by (verdict (situation_checks s ++ config_checks config) Verdict.Accepted) (ruling_of config (facts_of s))
+unfoldable pub ruling_answer : Situation → ColregsConfig → Result Ruling Refusal
+ruling_answer s config = ruling_by (verdict (situation_checks s ++ config_checks config) (Ok tt)) (ruling_of config (facts_of s))

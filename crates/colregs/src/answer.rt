@@ -28,13 +28,13 @@ pub enum Responsibility {
 
 #[derive(Clone, Copy)]
 pub enum Rule {
-    Rule12,
-    Rule13,
-    Rule14,
-    Rule15,
-    Rule17,
-    Rule18,
-    Rule19,
+    Rule12 = 12,
+    Rule13 = 13,
+    Rule14 = 14,
+    Rule15 = 15,
+    Rule17 = 17,
+    Rule18 = 18,
+    Rule19 = 19,
 }
 
 // Own craft's duty, and the rule that decides it.
@@ -60,25 +60,11 @@ pub struct Ruling {
     pub manoeuvre: PermittedManoeuvre,
 }
 
-#[derive(Clone, Copy)]
-pub enum RulingAnswer {
-    Of(Ruling),
-    Refused(Refusal),
-}
-
 impl Rule {
     // The number that is printed.
     pub fn number(self) -> u8
         ensures { result ≡ Spec.rule_number self }
     {
-        match self {
-            Rule::Rule12 => 12,
-            Rule::Rule13 => 13,
-            Rule::Rule14 => 14,
-            Rule::Rule15 => 15,
-            Rule::Rule17 => 17,
-            Rule::Rule18 => 18,
-            Rule::Rule19 => 19,
-        }
+        self as u8
     }
 }

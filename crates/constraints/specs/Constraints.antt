@@ -1,5 +1,5 @@
 -- The constraints of a manoeuvre (avoidance.rs, `PermittedSides`, `ManoeuvreConstraints`; 01, the table's row 4).
-use Rattle.std.specs.Prelude.{Bool, true, false, List, [], ◌∷◌, ◌++◌, ℕ, Float}
+use Rattle.std.specs.Prelude.{Bool, true, false, List, [], ◌∷◌, ◌++◌, ℕ, Float, None, Some, Err, Ok}
 use Rattle.std.specs.Float.{binary64}
 use Rattle.std.specs.Float.Ieee.{of_bits}
 use Rattle.math.specs.Sign.{abs}
@@ -8,16 +8,13 @@ use Rattle.elementary.specs.Range.{in_range}
 use Rattle.elementary.specs.declared.error.Refusal.TheVariants as Why
 use Rattle.motion.specs.declared.units.Angle.{Angle}
 use Rattle.motion.specs.declared.units.RateOfTurn.{RateOfTurn}
-use Rattle.arguments.specs.declared.Verdict.{Verdict}
-use Rattle.arguments.specs.declared.Verdict.TheVariants as Verdict
+use Rattle.std.specs.declared.option.Option.{Option}
+use Rattle.std.specs.declared.result.Result.{Result}
+use Rattle.elementary.specs.declared.error.Refusal.{Refusal}
 use Rattle.arguments.specs.Check.{zero, Check, check, verdict}
 use Rattle.constraints.specs.declared.PermittedSides.{PermittedSides}
 use Rattle.constraints.specs.declared.PermittedSides.TheVariants as Sides
-use Rattle.constraints.specs.declared.PerhapsRate.{PerhapsRate}
-use Rattle.constraints.specs.declared.PerhapsRate.TheVariants as Rate
 use Rattle.constraints.specs.declared.ManoeuvreConstraints.{ManoeuvreConstraints}
-use Rattle.constraints.specs.declared.ConstraintsAnswer.{ConstraintsAnswer}
-use Rattle.constraints.specs.declared.ConstraintsAnswer.TheVariants.{Of, Refused}
 
 abbrev pub permits_starboard : PermittedSides → Bool
 permits_starboard Sides.Either = true
@@ -42,29 +39,29 @@ fastest = of_bits binary64 0x7fef_ffff_ffff_ffff
 abbrev pub alteration_checks : Angle → Angle → List Check
 alteration_checks least most = check (in_range zero reversal least.0) Why.Constraints ∷ check (in_range least.0 reversal most.0) Why.Constraints ∷ []
 
-abbrev pub rate_checks : PerhapsRate → List Check
-rate_checks Rate.Nothing = []
-rate_checks (Rate.Of r) = check (in_range slowest fastest r.0) Why.Constraints ∷ []
+abbrev pub rate_checks : Option RateOfTurn → List Check
+rate_checks None = []
+rate_checks (Some r) = check (in_range slowest fastest r.0) Why.Constraints ∷ []
 
 -- least, most, rate
 unfoldable pub constraint_checks : ManoeuvreConstraints → List Check
 constraint_checks c = alteration_checks c.least_alteration c.most_alteration ++ rate_checks c.rate_of_turn
 
-abbrev pub constraints_by : Verdict → ManoeuvreConstraints → ConstraintsAnswer
-constraints_by Verdict.Accepted c = Of c
-constraints_by (Verdict.Refused why) c = Refused why
+abbrev pub constraints_by : Result (Unit {0}) Refusal → ManoeuvreConstraints → Result ManoeuvreConstraints Refusal
+constraints_by (Ok tt) c = Ok c
+constraints_by (Err why) c = Err why
 
-unfoldable pub constraints_answer : PermittedSides → Angle → Angle → ConstraintsAnswer
+unfoldable pub constraints_answer : PermittedSides → Angle → Angle → Result ManoeuvreConstraints Refusal
 constraints_answer sides least most =
-    constraints_by (verdict (alteration_checks least most) Verdict.Accepted) (record { sides = sides; least_alteration = least; most_alteration = most; rate_of_turn = Rate.Nothing })
+    constraints_by (verdict (alteration_checks least most) (Ok tt)) (record { sides = sides; least_alteration = least; most_alteration = most; rate_of_turn = None })
 
 -- the sign of the rate is ignored
-unfoldable pub with_rate_of_turn : ManoeuvreConstraints → RateOfTurn → ConstraintsAnswer
+unfoldable pub with_rate_of_turn : ManoeuvreConstraints → RateOfTurn → Result ManoeuvreConstraints Refusal
 with_rate_of_turn c rate =
-    let size = Rate.Of (record { 0 = abs rate.0 }) in
-    constraints_by (verdict (rate_checks size) Verdict.Accepted) (record { sides = c.sides; least_alteration = c.least_alteration; most_alteration = c.most_alteration; rate_of_turn = size })
+    let size = Some (record { 0 = abs rate.0 }) in
+    constraints_by (verdict (rate_checks size) (Ok tt)) (record { sides = c.sides; least_alteration = c.least_alteration; most_alteration = c.most_alteration; rate_of_turn = size })
 
 -- document 01's number of an answer, 0 where it is answered
-abbrev pub constraints_number : ConstraintsAnswer → ℕ
-constraints_number (Of c) = 0
-constraints_number (Refused why) = number_of why
+abbrev pub constraints_number : Result ManoeuvreConstraints Refusal → ℕ
+constraints_number (Ok c) = 0
+constraints_number (Err why) = number_of why

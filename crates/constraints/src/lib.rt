@@ -6,7 +6,6 @@ ghost use Rattle.std.specs.Prelude.{◌≡◌};
 ghost use Rattle.arguments.specs.Check as Check;
 ghost use Rattle.constraints.specs.Constraints as Spec;
 
-use arguments::Verdict;
 use elementary::error::Refusal;
 use motion::units::{Angle, RateOfTurn};
 
@@ -26,23 +25,11 @@ pub enum PermittedSides {
 }
 
 #[derive(Clone, Copy)]
-pub enum PerhapsRate {
-    Nothing,
-    Of(RateOfTurn),
-}
-
-#[derive(Clone, Copy)]
 pub struct ManoeuvreConstraints {
     sides: PermittedSides,
     least_alteration: Angle,
     most_alteration: Angle,
-    rate_of_turn: PerhapsRate,
-}
-
-#[derive(Clone, Copy)]
-pub enum ConstraintsAnswer {
-    Of(ManoeuvreConstraints),
-    Refused(Refusal),
+    rate_of_turn: Option<RateOfTurn>,
 }
 
 impl PermittedSides {
@@ -69,83 +56,68 @@ impl PermittedSides {
     }
 }
 
-// The least alteration from 0 to 180 degrees, the most from there to 180, then what the checks after them say.
-pub fn check_alterations(least: Angle, most: Angle, rest: Verdict) -> Verdict
-    ensures { result ≡ Check.verdict (Spec.alteration_checks least most) rest }
+// The least alteration from 0 to 180 degrees, then the most from there to 180 (number 4).
+pub fn check_alterations(least: Angle, most: Angle) -> Result<(), Refusal>
+    ensures { result ≡ Check.checked (Spec.alteration_checks least most) }
 {
-    arguments::unless(
+    arguments::ensure(
         elementary::error::ensure_range(least.0, 0.0, MAX_ALTERATION),
         Refusal::Constraints,
-        arguments::unless(
-            elementary::error::ensure_range(most.0, least.0, MAX_ALTERATION),
-            Refusal::Constraints,
-            rest,
-        ),
+    )?;
+    arguments::ensure(
+        elementary::error::ensure_range(most.0, least.0, MAX_ALTERATION),
+        Refusal::Constraints,
     )
 }
 
-fn check_rate(rate: PerhapsRate, rest: Verdict) -> Verdict
-    ensures { result ≡ Check.verdict (Spec.rate_checks rate) rest }
+fn check_rate(rate: Option<RateOfTurn>) -> Result<(), Refusal>
+    ensures { result ≡ Check.checked (Spec.rate_checks rate) }
 {
     match rate {
-        PerhapsRate::Nothing => rest,
-        PerhapsRate::Of(r) => arguments::unless(
+        None => Ok(()),
+        Some(r) => arguments::ensure(
             elementary::error::ensure_range(r.0, SLOWEST, FASTEST),
             Refusal::Constraints,
-            rest,
         ),
     }
 }
 
 // The least alteration, the most, the rate of turn.
-pub fn check_constraints(c: ManoeuvreConstraints, rest: Verdict) -> Verdict
-    ensures { result ≡ Check.verdict (Spec.constraint_checks c) rest }
+pub fn check_constraints(c: ManoeuvreConstraints) -> Result<(), Refusal>
+    ensures { result ≡ Check.checked (Spec.constraint_checks c) }
 {
-    let least = c.least_alteration;
-    let most = c.most_alteration;
-    let rate = c.rate_of_turn;
-    check_alterations(least, most, check_rate(rate, rest))
-}
-
-// The constraints where the verdict accepts them.
-fn answered(verdict: Verdict, c: ManoeuvreConstraints) -> ConstraintsAnswer
-    ensures { result ≡ Spec.constraints_by verdict c }
-{
-    match verdict {
-        Verdict::Accepted => ConstraintsAnswer::Of(c),
-        Verdict::Refused(why) => ConstraintsAnswer::Refused(why),
-    }
+    check_alterations(c.least_alteration, c.most_alteration)?;
+    check_rate(c.rate_of_turn)
 }
 
 impl ManoeuvreConstraints {
     // Constraints without a rate of turn, or the number of the first check that fails.
-    pub fn new(sides: PermittedSides, least: Angle, most: Angle) -> ConstraintsAnswer
+    pub fn new(
+        sides: PermittedSides,
+        least: Angle,
+        most: Angle,
+    ) -> Result<ManoeuvreConstraints, Refusal>
         ensures { result ≡ Spec.constraints_answer sides least most }
     {
-        let c = ManoeuvreConstraints {
-            sides: sides,
+        check_alterations(least, most)?;
+        Ok(ManoeuvreConstraints {
+            sides,
             least_alteration: least,
             most_alteration: most,
-            rate_of_turn: PerhapsRate::Nothing,
-        };
-        answered(check_alterations(least, most, Verdict::Accepted), c)
+            rate_of_turn: None,
+        })
     }
 
     // The sign of the rate is ignored.
-    pub fn with_rate_of_turn(self, rate: RateOfTurn) -> ConstraintsAnswer
+    pub fn with_rate_of_turn(self, rate: RateOfTurn) -> Result<ManoeuvreConstraints, Refusal>
         ensures { result ≡ Spec.with_rate_of_turn self rate }
     {
-        let sides = self.sides;
-        let least = self.least_alteration;
-        let most = self.most_alteration;
-        let size = PerhapsRate::Of(RateOfTurn(math::abs(rate.0)));
-        let c = ManoeuvreConstraints {
-            sides: sides,
-            least_alteration: least,
-            most_alteration: most,
-            rate_of_turn: size,
-        };
-        answered(check_rate(size, Verdict::Accepted), c)
+        let rate_of_turn = Some(RateOfTurn(math::abs(rate.0)));
+        check_rate(rate_of_turn)?;
+        Ok(ManoeuvreConstraints {
+            rate_of_turn,
+            ..self
+        })
     }
 
     // The sides that may be turned to.
@@ -170,7 +142,7 @@ impl ManoeuvreConstraints {
     }
 
     // The rate of turn in degrees per minute, where one is given.
-    pub fn rate_of_turn(self) -> PerhapsRate
+    pub fn rate_of_turn(self) -> Option<RateOfTurn>
         ensures { result ≡ self.rate_of_turn }
     {
         self.rate_of_turn

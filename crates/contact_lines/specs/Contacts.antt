@@ -2,35 +2,36 @@
 --
 -- A sheet's values are checked before they are asked, so that on an accepted sheet none of them refuses (report_laws).
 use mathlib.Core.List.{List, flat_map}
-use Rattle.std.specs.Prelude.{ℕ}
+use Rattle.std.specs.Prelude.{ℕ, Err, Ok}
 use Rattle.policy.specs.declared.CpaPolicy.{CpaPolicy}
-use Rattle.relative_motion.specs.declared.approach.CpaAnswer.{CpaAnswer}
-use Rattle.relative_motion.specs.declared.approach.CpaAnswer.TheVariants as Cpa
+use Rattle.colregs.specs.declared.answer.Ruling.{Ruling}
+use Rattle.std.specs.declared.option.Option.{Option}
+use Rattle.std.specs.declared.result.Result.{Result}
+use Rattle.elementary.specs.declared.error.Refusal.{Refusal}
+use Rattle.motion.specs.declared.units.Direction.{Direction}
+use Rattle.relative_motion.specs.declared.approach.Approach.{Approach}
 use Rattle.relative_motion.specs.Approach.{cpa_answer}
 use Rattle.risk.specs.Risk.{nearest, risk_of}
 use Rattle.situation.specs.declared.party.Party.{Party}
-use Rattle.situation.specs.declared.party.Perhaps.{Perhaps}
 use Rattle.situation.specs.declared.party.Visibility.{Visibility}
 use Rattle.situation.specs.Situation.{standard}
-use Rattle.colregs.specs.declared.answer.RulingAnswer.{RulingAnswer}
-use Rattle.colregs.specs.declared.answer.RulingAnswer.TheVariants as Ruling
 use Rattle.colregs.specs.Colregs.{ruling_answer}
 use Rattle.rulings.specs.Ruled.{situation_of}
 use Rattle.sheet_record.specs.declared.Row.{Row}
 use Rattle.sheet_values.specs.Values.{entry_of}
 use Rattle.lines.specs.Lines.{contact_line, refused_line}
 
-abbrev pub line_by : ℕ → CpaPolicy → CpaAnswer → RulingAnswer → List ℕ
-line_by id policy (Cpa.Of a) (Ruling.Of r) = contact_line id a (risk_of policy (nearest a)) r
-line_by id policy (Cpa.Of a) (Ruling.Refused why) = refused_line why
-line_by id policy (Cpa.Refused why) r = refused_line why
+abbrev pub line_by : ℕ → CpaPolicy → Result Approach Refusal → Result Ruling Refusal → List ℕ
+line_by id policy (Ok a) (Ok r) = contact_line id a (risk_of policy (nearest a)) r
+line_by id policy (Ok a) (Err why) = refused_line why
+line_by id policy (Err why) r = refused_line why
 
 -- own craft, visibility and wind are the same for every contact
-unfoldable pub line_on : Party → Visibility → Perhaps → CpaPolicy → Row → List ℕ
+unfoldable pub line_on : Party → Visibility → Option Direction → CpaPolicy → Row → List ℕ
 line_on own visibility wind policy row =
     let e = entry_of row in
     line_by row.id policy (cpa_answer own.motion e.contact e.target.motion) (ruling_answer (situation_of own visibility wind e) standard)
 
 -- in the sheet's order
-unfoldable pub contact_lines : Party → Visibility → Perhaps → CpaPolicy → List Row → List ℕ
+unfoldable pub contact_lines : Party → Visibility → Option Direction → CpaPolicy → List Row → List ℕ
 contact_lines own visibility wind policy rs = flat_map (line_on own visibility wind policy) rs

@@ -6,13 +6,15 @@ ghost use Rattle.text.specs.Text.{shown, appended};
 ghost use Rattle.sheet_record.specs.Record as Record;
 ghost use Rattle.contact_lines.specs.Contacts as Spec;
 
-use colregs::answer::RulingAnswer;
+use colregs::answer::Ruling;
+use elementary::error::Refusal;
+use motion::units::Direction;
 use policy::CpaPolicy;
 use relative_motion::approach;
-use relative_motion::approach::CpaAnswer;
+use relative_motion::approach::Approach;
 use sheet_record::{Row, Rows};
 use situation::config::ColregsConfig;
-use situation::party::{Party, Perhaps, Situation, Visibility};
+use situation::party::{Party, Situation, Visibility};
 use text::Text;
 
 // The line on a contact, from how it approaches and how it is ruled on.
@@ -20,20 +22,20 @@ fn put_answers(
     t: Text,
     id: u32,
     policy: CpaPolicy,
-    approach: CpaAnswer,
-    ruling: RulingAnswer,
+    approach: Result<Approach, Refusal>,
+    ruling: Result<Ruling, Refusal>,
 ) -> Text
     ensures { shown result ≡ appended (shown t) (Spec.line_by id policy approach ruling) }
 {
     match approach {
-        CpaAnswer::Of(a) => match ruling {
-            RulingAnswer::Of(g) => {
+        Ok(a) => match ruling {
+            Ok(g) => {
                 let k = risk::risk_of(policy, risk::nearest(a));
                 lines::contact_line(t, id, a, k, g)
             }
-            RulingAnswer::Refused(why) => lines::refused_line(t, why),
+            Err(why) => lines::refused_line(t, why),
         },
-        CpaAnswer::Refused(why) => lines::refused_line(t, why),
+        Err(why) => lines::refused_line(t, why),
     }
 }
 
@@ -42,7 +44,7 @@ fn put_row(
     t: Text,
     own: Party,
     visibility: Visibility,
-    wind: Perhaps,
+    wind: Option<Direction>,
     policy: CpaPolicy,
     row: Row,
 ) -> Text
@@ -56,10 +58,10 @@ fn put_row(
     let id = row.id;
     let approach = approach::closest_point_of_approach(vessel, contact, other);
     let s = Situation {
-        own: own,
-        target: target,
-        contact: contact,
-        visibility: visibility,
+        own,
+        target,
+        contact,
+        visibility,
         wind_from: wind,
     };
     let ruling = ruling::rule_of_the_road(s, ColregsConfig::STANDARD);
@@ -71,7 +73,7 @@ pub fn put_rows(
     t0: Text,
     own: Party,
     visibility: Visibility,
-    wind: Perhaps,
+    wind: Option<Direction>,
     policy: CpaPolicy,
     rows: Rows,
 ) -> Text

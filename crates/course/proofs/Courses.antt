@@ -1,4 +1,5 @@
 -- What the code of `course_for_cpa` owes.
+use Rattle.std.specs.Prelude.{is_some, not, Some, None, Err, Ok}
 use mathlib.Core.Path.{◌≡◌, refl, sym, ap, ◌∙◌}
 use mathlib.Core.Bool.{Bool, true, false, ◌&&◌}
 use mathlib.Core.List.{◌++◌}
@@ -9,17 +10,16 @@ use Rattle.root.specs.Sqrt.{sqrt}
 use Rattle.inverse.specs.Atan2.{atan2}
 use Rattle.elementary.specs.declared.error.Refusal.{Refusal}
 use Rattle.elementary.specs.declared.error.Refusal.TheVariants as Why
-use Rattle.arguments.specs.declared.Verdict.{Verdict}
-use Rattle.arguments.specs.declared.Verdict.TheVariants.{Accepted, Refused}
+use Rattle.std.specs.declared.option.Option.{Option}
+use Rattle.std.specs.declared.result.Result.{Result}
+use Rattle.course.specs.declared.Avoidance.{Avoidance}
+use Rattle.motion.specs.declared.units.Direction.{Direction}
 use Rattle.motion.specs.declared.units.Distance.{Distance}
 use Rattle.motion.specs.declared.vessel.Vessel.{Vessel}
 use Rattle.motion.specs.declared.vessel.Contact.{Contact}
 use Rattle.motion.specs.declared.vessel.Components.{Components}
-use Rattle.course.specs.declared.Alteration.{Alteration}
 use Rattle.best_course.specs.declared.Choice.{Choice}
-use Rattle.course.specs.declared.CourseAnswer.{CourseAnswer}
-use Rattle.course.specs.declared.CourseAnswer.TheVariants as CourseAnswer
-use Rattle.arguments.specs.Check.{zero, verdict, encounter_checks, distance_checks}
+use Rattle.arguments.specs.Check.{zero, encounter_checks, distance_checks, checked}
 use Rattle.motion.specs.Vessel.{unit}
 use Rattle.course.specs.Course.{one, clamped, offered, at_speed, along, alteration_to, is_nothing, choice_of, avoidance_of, course_for, course_by, course_answer}
 
@@ -63,39 +63,42 @@ module _ (own : Vessel) (target : Components) (degrees : Float) (choice : Choice
   some_along root first second h er ef es = cc
 
 -- ---- the answer
-module _ (choice : Choice) (s p : Alteration) (es : s ≡ alteration_to choice.starboard) (ep : p ≡ alteration_to choice.port) (a b : Bool) (ea : a ≡ is_nothing s) (eb : b ≡ is_nothing p) where
-  pub no_course : a && b ≡ true → CourseAnswer.Refused Why.NoOtherCourse ≡ avoidance_of choice
+-- `is_none` tells `is_nothing`
+pub none_is : (s : Option Direction) (a : Bool) → is_some s ≡ not a → a ≡ is_nothing s
+none_is None true h = refl
+none_is None false h = cc
+none_is (Some d) true h = cc
+none_is (Some d) false h = refl
+
+module _ (choice : Choice) (s p : Option Direction) (es : s ≡ alteration_to choice.starboard) (ep : p ≡ alteration_to choice.port) (a b : Bool) (ea : a ≡ is_nothing s) (eb : b ≡ is_nothing p) where
+  pub no_course : a && b ≡ true → Err Why.NoOtherCourse ≡ avoidance_of choice
   unfolding avoidance_of
   no_course h = cc
 
-  pub some-course : a && b ≡ false → CourseAnswer.Of (record { starboard = s; port = p }) ≡ avoidance_of choice
+  pub some-course : a && b ≡ false → Ok (record { starboard = s; port = p }) ≡ avoidance_of choice
   unfolding avoidance_of
   some-course h = cc
 
 -- ---- with accepted arguments
 module _ (own : Vessel) (contact : Contact) (target : Vessel) (wanted : Float) where
-  pub inside_desired : le contact.range.0 wanted ≡ true → CourseAnswer.Refused Why.InsideDesired ≡ course_for own contact target wanted
+  pub inside_desired : le contact.range.0 wanted ≡ true → Err Why.InsideDesired ≡ course_for own contact target wanted
   unfolding course_for
   inside_desired h = rw h refl
 
-  pub no_own_speed : le contact.range.0 wanted ≡ false → le own.speed.0 zero ≡ true → CourseAnswer.Refused Why.NoOwnSpeed ≡ course_for own contact target wanted
+  pub no_own_speed : le contact.range.0 wanted ≡ false → le own.speed.0 zero ≡ true → Err Why.NoOwnSpeed ≡ course_for own contact target wanted
   unfolding course_for
   no_own_speed h k = rw (h, k) refl
 
-  pub outside_desired : (c : Choice) (a : CourseAnswer) → le contact.range.0 wanted ≡ false → le own.speed.0 zero ≡ false → c ≡ choice_of own contact target wanted → a ≡ avoidance_of c → a ≡ course_for own contact target wanted
+  pub outside_desired : (c : Choice) (a : Result Avoidance Refusal) → le contact.range.0 wanted ≡ false → le own.speed.0 zero ≡ false → c ≡ choice_of own contact target wanted → a ≡ avoidance_of c → a ≡ course_for own contact target wanted
   unfolding course_for
   outside_desired c a h k ec e = rw (h, k) (e ∙ ap avoidance_of ec)
 
--- ---- by the verdict v
-module _ (own : Vessel) (contact : Contact) (target : Vessel) (desired : Distance) (w v : Verdict) (ew : w ≡ verdict (distance_checks desired) Accepted) (ev : v ≡ verdict (encounter_checks own contact target) w) where
-  checked : v ≡ verdict (encounter_checks own contact target ++ distance_checks desired) Accepted
-  unfolding verdict encounter_checks
-  checked = ev ∙ ap (verdict (encounter_checks own contact target)) ew
-
-  pub coursed : (a : CourseAnswer) → v ≡ Accepted → a ≡ course_for own contact target desired.0 → a ≡ course_answer own contact target desired
+-- ---- by the verdict on the arguments
+module _ (own : Vessel) (contact : Contact) (target : Vessel) (desired : Distance) where
+  pub coursed : (a : Result Avoidance Refusal) → Ok tt ≡ checked (encounter_checks own contact target ++ distance_checks desired) → a ≡ course_for own contact target desired.0 → a ≡ course_answer own contact target desired
   unfolding course_answer
-  coursed a h e = e ∙ ap (λ w. course_by w (course_for own contact target desired.0)) (sym h ∙ checked)
+  coursed a h e = e ∙ ap (λ w. course_by w (course_for own contact target desired.0)) h
 
-  pub course-refused : (why : Refusal) → v ≡ Refused why → CourseAnswer.Refused why ≡ course_answer own contact target desired
+  pub course-refused : (why : Refusal) → Err why ≡ checked (encounter_checks own contact target ++ distance_checks desired) → Err why ≡ course_answer own contact target desired
   unfolding course_answer
-  course-refused why h = ap (λ w. course_by w (course_for own contact target desired.0)) (sym h ∙ checked)
+  course-refused why h = ap (λ w. course_by w (course_for own contact target desired.0)) h

@@ -1,5 +1,5 @@
 -- The courses that bring a contact to a wanted distance (relative_motion.rs, `course_for_cpa`), operation by operation. The Rust keeps the courses that it finds in an array and then goes through them; here each is offered as it is found, in the same order.
-use Rattle.std.specs.Prelude.{Bool, true, false, ◌&&◌, cond, ◌++◌, ℕ, Float}
+use Rattle.std.specs.Prelude.{Bool, true, false, ◌&&◌, cond, ◌++◌, ℕ, Float, None, Some, Err, Ok}
 use Rattle.std.specs.Float.{binary64}
 use Rattle.std.specs.Float.Ieee.{neg, lt, le, of_bits}
 use Rattle.laws.specs.Ops.{◌⊕◌, ◌⊖◌, ◌⊗◌, ◌⊘◌}
@@ -10,19 +10,17 @@ use Rattle.arcsine.specs.Asin.{asin}
 use Rattle.inverse.specs.Atan2.{atan2}
 use Rattle.elementary.specs.Refusal.{number_of}
 use Rattle.elementary.specs.declared.error.Refusal.TheVariants as Why
-use Rattle.arguments.specs.declared.Verdict.{Verdict}
-use Rattle.arguments.specs.declared.Verdict.TheVariants as Verdict
+use Rattle.std.specs.declared.option.Option.{Option}
+use Rattle.std.specs.declared.result.Result.{Result}
+use Rattle.course.specs.declared.Avoidance.{Avoidance}
+use Rattle.elementary.specs.declared.error.Refusal.{Refusal}
+use Rattle.motion.specs.declared.units.Direction.{Direction}
 use Rattle.motion.specs.declared.units.Distance.{Distance}
 use Rattle.motion.specs.declared.vessel.Vessel.{Vessel}
 use Rattle.motion.specs.declared.vessel.Contact.{Contact}
 use Rattle.motion.specs.declared.vessel.Components.{Components}
-use Rattle.course.specs.declared.Alteration.{Alteration}
-use Rattle.course.specs.declared.Alteration.TheVariants as Alteration
 use Rattle.best_course.specs.declared.Best.{Best}
-use Rattle.best_course.specs.declared.Best.TheVariants as Best
 use Rattle.best_course.specs.declared.Choice.{Choice}
-use Rattle.course.specs.declared.CourseAnswer.{CourseAnswer}
-use Rattle.course.specs.declared.CourseAnswer.TheVariants as CourseAnswer
 use Rattle.arguments.specs.Check.{zero, verdict, encounter_checks, distance_checks}
 use Rattle.motion.specs.Vessel.{unit, velocity}
 pub use Rattle.best_course.specs.Offers.{smaller, larger}
@@ -60,37 +58,37 @@ unfoldable pub choice_of : Vessel → Contact → Vessel → Float → Choice
 choice_of own contact target wanted =
     let aside = grazing wanted contact.range.0 in
     let away = contact.bearing.0 ⊕ half_turn in
-    along own (velocity target) (away ⊕ aside) (along own (velocity target) (away ⊖ aside) (record { starboard = Best.Nothing; port = Best.Nothing }))
+    along own (velocity target) (away ⊕ aside) (along own (velocity target) (away ⊖ aside) (record { starboard = None; port = None }))
 
-abbrev pub alteration_to : Best → Alteration
-alteration_to Best.Nothing = Alteration.Nothing
-alteration_to (Best.By alteration course) = Alteration.To (record { 0 = whole_fold course })
+abbrev pub alteration_to : Option Best → Option Direction
+alteration_to None = None
+alteration_to (Some best) = Some (record { 0 = whole_fold best.course })
 
-abbrev pub is_nothing : Alteration → Bool
-is_nothing Alteration.Nothing = true
-is_nothing (Alteration.To d) = false
+abbrev pub is_nothing : Option Direction → Bool
+is_nothing None = true
+is_nothing (Some d) = false
 
-unfoldable pub avoidance_of : Choice → CourseAnswer
+unfoldable pub avoidance_of : Choice → Result Avoidance Refusal
 avoidance_of choice =
     let starboard = alteration_to choice.starboard in
     let port = alteration_to choice.port in
-    cond (is_nothing starboard && is_nothing port) (CourseAnswer.Refused Why.NoOtherCourse) (CourseAnswer.Of (record { starboard = starboard; port = port }))
+    cond (is_nothing starboard && is_nothing port) (Err Why.NoOtherCourse) (Ok (record { starboard = starboard; port = port }))
 
 -- with accepted arguments: 9, then 10, then 11
-unfoldable pub course_for : Vessel → Contact → Vessel → Float → CourseAnswer
+unfoldable pub course_for : Vessel → Contact → Vessel → Float → Result Avoidance Refusal
 course_for own contact target wanted =
-    cond (le contact.range.0 wanted) (CourseAnswer.Refused Why.InsideDesired)
-    (cond (le own.speed.0 zero) (CourseAnswer.Refused Why.NoOwnSpeed)
+    cond (le contact.range.0 wanted) (Err Why.InsideDesired)
+    (cond (le own.speed.0 zero) (Err Why.NoOwnSpeed)
     (avoidance_of (choice_of own contact target wanted)))
 
-abbrev pub course_by : Verdict → CourseAnswer → CourseAnswer
-course_by Verdict.Accepted a = a
-course_by (Verdict.Refused why) a = CourseAnswer.Refused why
+abbrev pub course_by : Result (Unit {0}) Refusal → Result Avoidance Refusal → Result Avoidance Refusal
+course_by (Ok tt) a = a
+course_by (Err why) a = Err why
 
-unfoldable pub course_answer : Vessel → Contact → Vessel → Distance → CourseAnswer
-course_answer own contact target desired = course_by (verdict (encounter_checks own contact target ++ distance_checks desired) Verdict.Accepted) (course_for own contact target desired.0)
+unfoldable pub course_answer : Vessel → Contact → Vessel → Distance → Result Avoidance Refusal
+course_answer own contact target desired = course_by (verdict (encounter_checks own contact target ++ distance_checks desired) (Ok tt)) (course_for own contact target desired.0)
 
 -- document 01's number of an answer, 0 where it is answered
-abbrev pub course_number : CourseAnswer → ℕ
-course_number (CourseAnswer.Of a) = 0
-course_number (CourseAnswer.Refused why) = number_of why
+abbrev pub course_number : Result Avoidance Refusal → ℕ
+course_number (Ok a) = 0
+course_number (Err why) = number_of why

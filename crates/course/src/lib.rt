@@ -4,31 +4,17 @@
 ghost use Rattle.std.specs.Prelude.{◌≡◌};
 ghost use Rattle.course.specs.Course as Spec;
 
-use arguments::Verdict;
 use best_course::{Best, Choice, offered};
 use elementary::error::Refusal;
 use motion::units::{Direction, Distance};
 use motion::vessel;
 use motion::vessel::{Components, Contact, Vessel};
 
-// A course to alter to, if there is one.
-#[derive(Clone, Copy)]
-pub enum Alteration {
-    Nothing,
-    To(Direction),
-}
-
 // The smallest alteration to either side.
 #[derive(Clone, Copy)]
 pub struct Avoidance {
-    pub starboard: Alteration,
-    pub port: Alteration,
-}
-
-#[derive(Clone, Copy)]
-pub enum CourseAnswer {
-    Of(Avoidance),
-    Refused(Refusal),
+    pub starboard: Option<Direction>,
+    pub port: Option<Direction>,
 }
 
 // The course that gives a relative speed along `track`, if the speed is one.
@@ -102,56 +88,44 @@ fn choice_of(own: Vessel, contact: Contact, target: Vessel, wanted: f64) -> Choi
         velocity,
         away - aside,
         Choice {
-            starboard: Best::Nothing,
-            port: Best::Nothing,
+            starboard: None,
+            port: None,
         },
     );
     along(own, velocity, away + aside, first)
 }
 
-fn alteration_to(best: Best) -> Alteration
+fn alteration_to(best: Option<Best>) -> Option<Direction>
     ensures { result ≡ Spec.alteration_to best }
 {
-    match best {
-        Best::Nothing => Alteration::Nothing,
-        Best::By(_, course) => Alteration::To(Direction(angle::from_degrees_wrapped(course))),
-    }
+    best.map(|kept| Direction(angle::from_degrees_wrapped(kept.course)))
 }
 
-fn is_nothing(a: Alteration) -> bool
-    ensures { result ≡ Spec.is_nothing a }
-{
-    match a {
-        Alteration::Nothing => true,
-        Alteration::To(_) => false,
-    }
-}
-
-fn avoidance_of(choice: Choice) -> CourseAnswer
+fn avoidance_of(choice: Choice) -> Result<Avoidance, Refusal>
     ensures { result ≡ Spec.avoidance_of choice }
 {
-    let best_starboard = choice.starboard;
-    let best_port = choice.port;
-    let starboard = alteration_to(best_starboard);
-    let port = alteration_to(best_port);
-    if is_nothing(starboard) & is_nothing(port) {
-        return CourseAnswer::Refused(Refusal::NoOtherCourse);
+    let starboard = alteration_to(choice.starboard);
+    let port = alteration_to(choice.port);
+    if starboard.is_none() & port.is_none() {
+        return Err(Refusal::NoOtherCourse);
     }
-    CourseAnswer::Of(Avoidance {
-        starboard: starboard,
-        port: port,
-    })
+    Ok(Avoidance { starboard, port })
 }
 
 // With accepted arguments.
-fn course_for(own: Vessel, contact: Contact, target: Vessel, wanted: f64) -> CourseAnswer
+fn course_for(
+    own: Vessel,
+    contact: Contact,
+    target: Vessel,
+    wanted: f64,
+) -> Result<Avoidance, Refusal>
     ensures { result ≡ Spec.course_for own contact target wanted }
 {
     if contact.range.0 <= wanted {
-        return CourseAnswer::Refused(Refusal::InsideDesired);
+        return Err(Refusal::InsideDesired);
     }
     if own.speed.0 <= 0.0 {
-        return CourseAnswer::Refused(Refusal::NoOwnSpeed);
+        return Err(Refusal::NoOwnSpeed);
     }
     avoidance_of(choice_of(own, contact, target, wanted))
 }
@@ -162,17 +136,10 @@ pub fn course_for_cpa(
     contact: Contact,
     target: Vessel,
     desired: Distance,
-) -> CourseAnswer
+) -> Result<Avoidance, Refusal>
     ensures { result ≡ Spec.course_answer own contact target desired }
 {
-    let verdict = arguments::check_encounter(
-        own,
-        contact,
-        target,
-        arguments::check_distance(desired, Verdict::Accepted),
-    );
-    match verdict {
-        Verdict::Accepted => course_for(own, contact, target, desired.0),
-        Verdict::Refused(why) => CourseAnswer::Refused(why),
-    }
+    arguments::check_encounter(own, contact, target)?;
+    arguments::check_distance(desired)?;
+    course_for(own, contact, target, desired.0)
 }

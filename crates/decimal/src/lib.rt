@@ -8,18 +8,10 @@ ghost use Rattle.std.specs.Float.Ieee.{lt};
 ghost use Rattle.std.specs.Float.Ieee.Nearest.{closest};
 ghost use Rattle.decimal.specs.Thousandths.{thousandths_of};
 
-// 2^52: the weight of the leading digit of a normal f64, and of the exponent's field in its pattern.
-const LEADING: u64 = 4503599627370496;
+use math::{LEADING, power_of_two};
 
 // The thousandths of 2^53, above which no f64 has a fraction.
 const MOST: u64 = 9007199254740992000;
-
-fn power_of_two(k: u64) -> u64
-    requires { k < 64 }
-    ensures { result ≡ 2 ^ k }
-{
-    1 << k
-}
 
 // n / d to the nearest whole number, ties to even.
 fn nearest(n: u64, d: u64) -> u64

@@ -6,53 +6,46 @@ ghost use Rattle.domains.specs.Checked.{number_or_refused, hypot_answer, sin_ans
 
 use elementary::error::Refusal;
 
-// A number, or why there is none.
-#[derive(Clone, Copy)]
-pub enum Real {
-    Number(f64),
-    Refused(Refusal),
-}
-
 // A value, or refusal 1 in place of a NaN.
-fn number_or_refused(value: f64) -> Real
+fn number_or_refused(value: f64) -> Result<f64, Refusal>
     ensures { result ≡ number_or_refused value }
 {
     if value == value {
-        return Real::Number(value);
+        return Ok(value);
     }
-    Real::Refused(Refusal::Angle)
+    Err(Refusal::Angle)
 }
 
 // The hypotenuse over two finite sides of at most 2^500 in size.
-pub fn hypot(x: f64, y: f64) -> Real
+pub fn hypot(x: f64, y: f64) -> Result<f64, Refusal>
     ensures { result ≡ hypot_answer x y }
 {
     number_or_refused(root::hypot(x, y))
 }
 
 // The sine of an angle of at most 16 radians either sign.
-pub fn sin(x: f64) -> Real
+pub fn sin(x: f64) -> Result<f64, Refusal>
     ensures { result ≡ sin_answer x }
 {
     number_or_refused(circular::sin(x))
 }
 
 // The cosine of an angle of at most 16 radians either sign.
-pub fn cos(x: f64) -> Real
+pub fn cos(x: f64) -> Result<f64, Refusal>
     ensures { result ≡ cos_answer x }
 {
     number_or_refused(circular::cos(x))
 }
 
 // The arcsine of a number from 0 to 1.
-pub fn asin(x: f64) -> Real
+pub fn asin(x: f64) -> Result<f64, Refusal>
     ensures { result ≡ asin_answer x }
 {
     number_or_refused(inverse::asin(x))
 }
 
 // The angle of the point (x, y), both finite.
-pub fn atan2(y: f64, x: f64) -> Real
+pub fn atan2(y: f64, x: f64) -> Result<f64, Refusal>
     ensures { result ≡ atan2_answer y x }
 {
     number_or_refused(inverse::atan2(y, x))

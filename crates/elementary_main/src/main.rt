@@ -6,9 +6,9 @@
 
 ghost use Rattle.std.specs.Prelude.{◌≤◌, ◌<◌};
 
-use domains::Real;
+use elementary::error::Refusal;
 use std::io::{self, ErrorKind, Read};
-use time::{Duration, TimeAnswer};
+use time::{Duration, TimeError};
 
 // The bit pattern that stands for every NaN.
 const NAN: u64 = 9221120237041090560;
@@ -46,10 +46,10 @@ fn pattern_of(x: f64) -> u64 {
     NAN
 }
 
-fn pattern_in(r: Real) -> u64 {
+fn pattern_in(r: Result<f64, Refusal>) -> u64 {
     match r {
-        Real::Number(x) => pattern_of(x),
-        Real::Refused(why) => why.number() as u64,
+        Ok(x) => pattern_of(x),
+        Err(why) => why.number() as u64,
     }
 }
 
@@ -60,25 +60,25 @@ fn truth(b: bool) -> u64 {
     0
 }
 
-fn secs_in(t: TimeAnswer) -> u64 {
+fn secs_in(t: Result<Duration, TimeError>) -> u64 {
     match t {
-        TimeAnswer::Of(d) => d.secs,
-        TimeAnswer::TooLong => 18446744073709551615,
-        TimeAnswer::NoTime => 18446744073709551614,
+        Ok(d) => d.secs,
+        Err(TimeError::TooLong) => 18446744073709551615,
+        Err(TimeError::NoTime) => 18446744073709551614,
     }
 }
 
-fn nanos_in(t: TimeAnswer) -> u64 {
+fn nanos_in(t: Result<Duration, TimeError>) -> u64 {
     match t {
-        TimeAnswer::Of(d) => d.nanos as u64,
-        TimeAnswer::TooLong => 18446744073709551615,
-        TimeAnswer::NoTime => 18446744073709551614,
+        Ok(d) => d.nanos as u64,
+        Err(TimeError::TooLong) => 18446744073709551615,
+        Err(TimeError::NoTime) => 18446744073709551614,
     }
 }
 
 fn duration(secs: u64, nanos: u64) -> Duration {
     Duration {
-        secs: secs,
+        secs,
         nanos: (nanos % 4294967296) as u32,
     }
 }

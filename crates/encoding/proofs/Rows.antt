@@ -1,4 +1,5 @@
 -- The loop over the rows appends the bytes of a row at a time, which are the bytes of all their words.
+use Rattle.std.specs.Prelude.{None, Some}
 use mathlib.Core.Path.{◌≡◌, refl, sym, ap, ◌∙◌}
 use mathlib.Core.List.{List, [], ◌∷◌, ◌++◌, flat_map}
 use Prim.Native.Nat.{ℕ, ◌+◌, ◌*◌, ◌≤◌, min}
@@ -11,8 +12,7 @@ use Rattle.text.proofs.Appending.{appended_twice, whole}
 use Rattle.text.proofs.Pieces.{with_piece, joined}
 use Rattle.room.specs.Room.{max_contacts}
 use Rattle.room.proofs.Counts.{take-room}
-use Rattle.sheet_record.specs.declared.Wind.{Wind}
-use Rattle.sheet_record.specs.declared.Wind.TheVariants as Wind
+use Rattle.std.specs.declared.option.Option.{Option}
 use Rattle.sheet_record.specs.declared.Header.{Header}
 use Rattle.sheet_record.specs.declared.Row.{Row}
 use Rattle.encoding.specs.Encode.{word_bytes, wind_words, header_words, row_words, rows_words, bytes_of, encode}
@@ -51,9 +51,9 @@ pub header_length_lem : (h : Header) → length (header_words h) ≡ 9 + length 
 unfolding header_words
 header_length_lem h = omega arith
 
-pub wind_length : (w : Wind) → length (wind_words w) ≤ 1
-wind_length Wind.Unknown = omega arith
-wind_length (Wind.From n) = omega arith
+pub wind_length : (w : Option ℕ) → length (wind_words w) ≤ 1
+wind_length None = omega arith
+wind_length (Some n) = omega arith
 
 pub both : (h : Header) (rs : List Row) (t u r : List ℕ) → length rs ≤ max_contacts → t ≡ [] → u ≡ appended t (bytes_of (header_words h)) → r ≡ appended u (bytes_of (rows_words rs)) → r ≡ encode h rs
 unfolding encode

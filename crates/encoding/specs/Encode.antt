@@ -1,8 +1,7 @@
 -- A sheet's record as its bytes (01, 'Encounter sheet and its program': 'little-endian 32-bit words; the top 4 bits are the kind, the low 28 the value', and their order; R-1: 'an optional word of kind F follows the TCPA limit'). The inverse of reading; of a value that is too large the low 28 bits are kept.
 use mathlib.Core.List.{List, [], ◌∷◌, ◌++◌, flat_map}
-use Rattle.std.specs.Prelude.{ℕ, ◌+◌, ◌*◌, ◌/◌, ◌%◌}
-use Rattle.sheet_record.specs.declared.Wind.{Wind}
-use Rattle.sheet_record.specs.declared.Wind.TheVariants as Wind
+use Rattle.std.specs.Prelude.{ℕ, ◌+◌, ◌*◌, ◌/◌, ◌%◌, None, Some}
+use Rattle.std.specs.declared.option.Option.{Option}
 use Rattle.sheet_record.specs.declared.Header.{Header}
 use Rattle.sheet_record.specs.declared.Row.{Row}
 
@@ -14,9 +13,9 @@ abbrev pub word_bytes : ℕ → List ℕ
 word_bytes w = w % 256 ∷ w / 256 % 256 ∷ w / 65536 % 256 ∷ w / 16777216 ∷ []
 
 -- where the wind comes from, if it is known
-abbrev pub wind_words : Wind → List ℕ
-wind_words Wind.Unknown = []
-wind_words (Wind.From n) = word 15 n ∷ []
+abbrev pub wind_words : Option ℕ → List ℕ
+wind_words None = []
+wind_words (Some n) = word 15 n ∷ []
 
 unfoldable pub header_words : Header → List ℕ
 header_words h =

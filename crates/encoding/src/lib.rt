@@ -6,7 +6,7 @@ ghost use Rattle.text.specs.Text.{shown, appended};
 ghost use Rattle.sheet_record.specs.Record as Record;
 ghost use Rattle.encoding.specs.Encode as Spec;
 
-use sheet_record::{Header, Row, Rows, Wind};
+use sheet_record::{Header, Row, Rows};
 use text::Text;
 
 // A word of a kind and a value, as four bytes.
@@ -24,12 +24,12 @@ fn put_word(t: Text, kind: u32, value: u32) -> Text
     t.put(&bytes)
 }
 
-fn put_wind(t: Text, wind: Wind) -> Text
+fn put_wind(t: Text, wind: Option<u32>) -> Text
     ensures { shown result ≡ appended (shown t) (Spec.bytes_of (Spec.wind_words wind)) }
 {
     match wind {
-        Wind::Unknown => t,
-        Wind::From(n) => put_word(t, 15, n),
+        None => t,
+        Some(n) => put_word(t, 15, n),
     }
 }
 

@@ -1,5 +1,5 @@
 -- Assessments as the C exports give them: fourteen words, by their number.
-use Rattle.std.specs.Prelude.{cond, ℕ, eqb, ltb, Float}
+use Rattle.std.specs.Prelude.{cond, ℕ, eqb, ltb, Float, None, Some, Err, Ok}
 use Rattle.words.specs.Words.{pattern}
 use Rattle.elementary.specs.Refusal.{number_of}
 use Rattle.elementary.specs.declared.error.Refusal.{Refusal}
@@ -7,19 +7,12 @@ use Rattle.time.specs.declared.Duration.{Duration}
 use Rattle.motion.specs.declared.units.Distance.{Distance}
 use Rattle.motion.specs.declared.vessel.Vessel.{Vessel}
 use Rattle.motion.specs.declared.vessel.Contact.{Contact}
-use Rattle.arguments.specs.declared.Verdict.{Verdict}
-use Rattle.arguments.specs.declared.Verdict.TheVariants as Verdict
+use Rattle.std.specs.declared.option.Option.{Option}
+use Rattle.std.specs.declared.result.Result.{Result}
+use Rattle.policy.specs.declared.CpaPolicy.{CpaPolicy}
 use Rattle.arguments.specs.Check.{verdict, encounter_checks}
 use Rattle.relative_motion.specs.declared.approach.Cpa.{Cpa}
-use Rattle.policy.specs.declared.PolicyAnswer.{PolicyAnswer}
-use Rattle.policy.specs.declared.PolicyAnswer.TheVariants as PolicyAnswer
-use Rattle.risk.specs.declared.PerhapsCpa.{PerhapsCpa}
-use Rattle.risk.specs.declared.PerhapsCpa.TheVariants as Cpas
-use Rattle.risk.specs.declared.PerhapsDistance.{PerhapsDistance}
-use Rattle.risk.specs.declared.PerhapsDistance.TheVariants as Distances
 use Rattle.assessment.specs.declared.assess.CollisionAssessment.{CollisionAssessment}
-use Rattle.assessment.specs.declared.assess.AssessAnswer.{AssessAnswer}
-use Rattle.assessment.specs.declared.assess.AssessAnswer.TheVariants as AssessAnswer
 use Rattle.risk.specs.Risk.{rank}
 use Rattle.assessment.specs.Assess.{assess_answer}
 
@@ -37,17 +30,17 @@ cpa_word cpa part =
     (cond (eqb part 6) (pattern cpa.bearing.0)
     (cond (eqb part 7) cpa.time_to_go.secs cpa.time_to_go.nanos)))
 
-abbrev pub nearest_word : PerhapsCpa → ℕ → ℕ
-nearest_word Cpas.Nothing part = 0
-nearest_word (Cpas.Of cpa) part = cpa_word cpa part
+abbrev pub nearest_word : Option Cpa → ℕ → ℕ
+nearest_word None part = 0
+nearest_word (Some cpa) part = cpa_word cpa part
 
 -- ---- from 9: whether there is a bow crossing, and its distance
 unfoldable pub distance_word : Distance → ℕ → ℕ
 distance_word d part = cond (eqb part 9) 1 (pattern d.0)
 
-abbrev pub crossing_word : PerhapsDistance → ℕ → ℕ
-crossing_word Distances.Nothing part = 0
-crossing_word (Distances.Of d) part = distance_word d part
+abbrev pub crossing_word : Option Distance → ℕ → ℕ
+crossing_word None part = 0
+crossing_word (Some d) part = distance_word d part
 
 -- ---- from 11: the risk, the range, the bearing
 unfoldable pub contact_word : CollisionAssessment → ℕ → ℕ
@@ -65,18 +58,18 @@ assessed_word a part =
 unfoldable pub refused_word : Refusal → ℕ → ℕ
 refused_word why part = cond (eqb part 0) (number_of why) 0
 
-abbrev pub answer_word : AssessAnswer → ℕ → ℕ
-answer_word (AssessAnswer.Of a) part = assessed_word a part
-answer_word (AssessAnswer.Refused why) part = refused_word why part
+abbrev pub answer_word : Result CollisionAssessment Refusal → ℕ → ℕ
+answer_word (Ok a) part = assessed_word a part
+answer_word (Err why) part = refused_word why part
 
-abbrev pub verdict_word : Verdict → ℕ → ℕ
-verdict_word Verdict.Accepted part = 0
-verdict_word (Verdict.Refused why) part = refused_word why part
+abbrev pub verdict_word : Result (Unit {0}) Refusal → ℕ → ℕ
+verdict_word (Ok tt) part = 0
+verdict_word (Err why) part = refused_word why part
 
 -- a policy that is refused comes after own craft, the contact and the target
-abbrev pub word_by : Vessel → Contact → Vessel → PolicyAnswer → ℕ → ℕ
-word_by own contact target (PolicyAnswer.Of policy) part = answer_word (assess_answer own contact target policy) part
-word_by own contact target (PolicyAnswer.Refused why) part = verdict_word (verdict (encounter_checks own contact target) (Verdict.Refused why)) part
+abbrev pub word_by : Vessel → Contact → Vessel → Result CpaPolicy Refusal → ℕ → ℕ
+word_by own contact target (Ok policy) part = answer_word (assess_answer own contact target policy) part
+word_by own contact target (Err why) part = verdict_word (verdict (encounter_checks own contact target) (Err why)) part
 
 -- ---- the arguments
 abbrev pub vessel : Float → Float → Vessel

@@ -9,14 +9,12 @@ ghost use Rattle.std.specs.Prelude.{◌≡◌};
 ghost use Rattle.policy.specs.Policy as Policy;
 ghost use Rattle.exports_assessment.specs.Words as Spec;
 
-use arguments::Verdict;
-use assessment::assess::{AssessAnswer, CollisionAssessment};
+use assessment::assess::CollisionAssessment;
 use elementary::error::Refusal;
 use motion::units::{Direction, Distance, Speed};
 use motion::vessel::{Contact, Vessel};
-use policy::{CpaPolicy, PolicyAnswer};
+use policy::CpaPolicy;
 use relative_motion::approach::Cpa;
-use risk::{PerhapsCpa, PerhapsDistance};
 use time::Duration;
 use words::pattern;
 
@@ -54,12 +52,12 @@ fn cpa_word(cpa: Cpa, part: u32) -> u64
     to_go.nanos as u64
 }
 
-fn nearest_word(p: PerhapsCpa, part: u32) -> u64
+fn nearest_word(p: Option<Cpa>, part: u32) -> u64
     ensures { result ≡ Spec.nearest_word p part }
 {
     match p {
-        PerhapsCpa::Nothing => 0,
-        PerhapsCpa::Of(cpa) => cpa_word(cpa, part),
+        None => 0,
+        Some(cpa) => cpa_word(cpa, part),
     }
 }
 
@@ -72,12 +70,12 @@ fn distance_word(d: Distance, part: u32) -> u64
     pattern(d.0)
 }
 
-fn crossing_word(p: PerhapsDistance, part: u32) -> u64
+fn crossing_word(p: Option<Distance>, part: u32) -> u64
     ensures { result ≡ Spec.crossing_word p part }
 {
     match p {
-        PerhapsDistance::Nothing => 0,
-        PerhapsDistance::Of(d) => distance_word(d, part),
+        None => 0,
+        Some(d) => distance_word(d, part),
     }
 }
 
@@ -123,35 +121,41 @@ fn refused_word(why: Refusal, part: u32) -> u64
     0
 }
 
-fn answer_word(answer: AssessAnswer, part: u32) -> u64
+fn answer_word(answer: Result<CollisionAssessment, Refusal>, part: u32) -> u64
     ensures { result ≡ Spec.answer_word answer part }
 {
     match answer {
-        AssessAnswer::Of(a) => assessed_word(a, part),
-        AssessAnswer::Refused(why) => refused_word(why, part),
+        Ok(a) => assessed_word(a, part),
+        Err(why) => refused_word(why, part),
     }
 }
 
-fn verdict_word(v: Verdict, part: u32) -> u64
+fn verdict_word(v: Result<(), Refusal>, part: u32) -> u64
     ensures { result ≡ Spec.verdict_word v part }
 {
     match v {
-        Verdict::Accepted => 0,
-        Verdict::Refused(why) => refused_word(why, part),
+        Ok(()) => 0,
+        Err(why) => refused_word(why, part),
     }
 }
 
 // A policy that is refused comes after own craft, the contact and the target, as document 01 has it.
-fn word_by(own: Vessel, contact: Contact, target: Vessel, p: PolicyAnswer, part: u32) -> u64
+fn word_by(
+    own: Vessel,
+    contact: Contact,
+    target: Vessel,
+    p: Result<CpaPolicy, Refusal>,
+    part: u32,
+) -> u64
     ensures { result ≡ Spec.word_by own contact target p part }
 {
     match p {
-        PolicyAnswer::Of(policy) => answer_word(
+        Ok(policy) => answer_word(
             assessment::assess::assess(own, contact, target, policy),
             part,
         ),
-        PolicyAnswer::Refused(why) => verdict_word(
-            arguments::check_encounter(own, contact, target, Verdict::Refused(why)),
+        Err(why) => verdict_word(
+            arguments::check_encounter(own, contact, target).and(Err(why)),
             part,
         ),
     }
@@ -184,10 +188,7 @@ pub extern "C" fn avoidance_assess(
         course: Direction(tc),
         speed: Speed(ts),
     };
-    let latest = Duration {
-        secs: secs,
-        nanos: nanos,
-    };
+    let latest = Duration { secs, nanos };
     word_by(
         own,
         contact,

@@ -7,14 +7,13 @@
 ghost use Rattle.std.specs.Prelude.{◌≡◌, get_or};
 ghost use Rattle.exports_avoidance.specs.Words as Spec;
 
-use avoid::ManoeuvreAnswer;
 use avoidance_codes::{constraints_of, permitted_sides, traffic_of};
 use avoidance_words::{limiting_word, side_word, turned};
-use choice::{Choice, Sides};
-use constraints::ConstraintsAnswer;
+use choice::{Chosen, Sides};
 use elementary::error::Refusal;
+use manoeuvre::AvoidanceManoeuvre;
 use motion::units::Distance;
-use rulings::RuledAnswer;
+use rulings::RuledManoeuvre;
 use traffic::Traffic;
 use words::pattern;
 
@@ -25,11 +24,11 @@ fn refused(why: Refusal) -> [u64; 9]
     [why.number() as u64, 0, 0, 0, 0, 0, 0, 0, 0]
 }
 
-fn avoid_words(answer: ManoeuvreAnswer) -> [u64; 9]
+fn avoid_words(answer: Result<AvoidanceManoeuvre, Refusal>) -> [u64; 9]
     ensures { result ≡ Spec.avoid_words answer }
 {
     match answer {
-        ManoeuvreAnswer::Of(m) => {
+        Ok(m) => {
             let size = m.alteration();
             let course = m.course();
             let passing = m.least_passing();
@@ -42,15 +41,15 @@ fn avoid_words(answer: ManoeuvreAnswer) -> [u64; 9]
                 limiting_word(m.limiting()),
             )
         }
-        ManoeuvreAnswer::Refused(why) => refused(why),
+        Err(why) => refused(why),
     }
 }
 
-fn ruled_words(answer: RuledAnswer) -> [u64; 9]
+fn ruled_words(answer: Result<RuledManoeuvre, Refusal>) -> [u64; 9]
     ensures { result ≡ Spec.ruled_words answer }
 {
     match answer {
-        RuledAnswer::Of(m) => {
+        Ok(m) => {
             let side = m.side;
             let time = m.turn_time;
             let limiting = m.limiting;
@@ -63,17 +62,17 @@ fn ruled_words(answer: RuledAnswer) -> [u64; 9]
                 limiting_word(limiting),
             )
         }
-        RuledAnswer::Refused(why) => refused(why),
+        Err(why) => refused(why),
     }
 }
 
 // Whether a trial was found, its side and magnitude, the passing distance and the limiting contact.
-fn search_words(choice: Choice) -> [u64; 9]
+fn search_words(choice: Option<Chosen>) -> [u64; 9]
     ensures { result ≡ Spec.search_words choice }
 {
     match choice {
-        Choice::Nothing => [0, 0, 0, 0, 0, 0, 0, 0, 0],
-        Choice::Of(c) => {
+        None => [0, 0, 0, 0, 0, 0, 0, 0, 0],
+        Some(c) => {
             let side = c.side;
             let passing = c.passing;
             let limiting = passing.limiting;
@@ -112,7 +111,7 @@ pub extern "C" fn avoidance_avoid(
     ensures { result ≡ get_or (Spec.avoid_with (Spec.constraints_of sides least most known rate) oc os bearing range tc ts desired) part 0 }
 {
     match constraints_of(sides, least, most, known, rate) {
-        ConstraintsAnswer::Of(c) => codes::word_at(
+        Ok(c) => codes::word_at(
             avoid_words(avoid::avoid(
                 words::vessel(oc, os),
                 words::contact(bearing, range),
@@ -122,7 +121,7 @@ pub extern "C" fn avoidance_avoid(
             )),
             part,
         ),
-        ConstraintsAnswer::Refused(why) => codes::word_at(refused(why), part),
+        Err(why) => codes::word_at(refused(why), part),
     }
 }
 
@@ -156,7 +155,7 @@ pub extern "C" fn avoidance_ruled(part: u32, codes: u32, count: usize, floats: &
     let least = codes::float_at(floats, 5);
     let most = codes::float_at(floats, 6);
     match constraints_of(0, least, most, known, codes::float_at(floats, 7)) {
-        ConstraintsAnswer::Of(c) => codes::word_at(
+        Ok(c) => codes::word_at(
             ruled_words(ruled::ruled_search(
                 codes::party(
                     codes % 8,
@@ -173,6 +172,6 @@ pub extern "C" fn avoidance_ruled(part: u32, codes: u32, count: usize, floats: &
             )),
             part,
         ),
-        ConstraintsAnswer::Refused(why) => codes::word_at(refused(why), part),
+        Err(why) => codes::word_at(refused(why), part),
     }
 }

@@ -9,9 +9,10 @@ ghost use Rattle.plot.specs.Plot as Plot;
 ghost use Rattle.words.specs.Words as Shared;
 ghost use Rattle.exports_course.specs.Words as Spec;
 
-use course::{Alteration, Avoidance, CourseAnswer};
-use motion::units::Distance;
-use plot::{PlotAnswer, TargetSolution};
+use course::Avoidance;
+use elementary::error::Refusal;
+use motion::units::{Direction, Distance};
+use plot::TargetSolution;
 use time::Duration;
 use words::Words;
 
@@ -29,31 +30,31 @@ fn solved(s: TargetSolution) -> Words
     }
 }
 
-fn plot_words(answer: PlotAnswer) -> Words
+fn plot_words(answer: Result<TargetSolution, Refusal>) -> Words
     ensures { result ≡ Spec.plot_words answer }
 {
     match answer {
-        PlotAnswer::Of(s) => solved(s),
-        PlotAnswer::Refused(why) => words::refused(why),
+        Ok(s) => solved(s),
+        Err(why) => words::refused(why),
     }
 }
 
 // ---- whether there is a starboard course, and it; and the same to port
-fn presence(a: Alteration) -> u64
+fn presence(a: Option<Direction>) -> u64
     ensures { result ≡ Spec.presence a }
 {
     match a {
-        Alteration::Nothing => 0,
-        Alteration::To(_) => 1,
+        None => 0,
+        Some(_) => 1,
     }
 }
 
-fn course(a: Alteration) -> u64
+fn course(a: Option<Direction>) -> u64
     ensures { result ≡ Spec.course a }
 {
     match a {
-        Alteration::Nothing => 0,
-        Alteration::To(d) => words::pattern(d.0),
+        None => 0,
+        Some(d) => words::pattern(d.0),
     }
 }
 
@@ -72,12 +73,12 @@ fn altered(a: Avoidance) -> Words
     }
 }
 
-fn course_words(answer: CourseAnswer) -> Words
+fn course_words(answer: Result<Avoidance, Refusal>) -> Words
     ensures { result ≡ Spec.course_words answer }
 {
     match answer {
-        CourseAnswer::Of(a) => altered(a),
-        CourseAnswer::Refused(why) => words::refused(why),
+        Ok(a) => altered(a),
+        Err(why) => words::refused(why),
     }
 }
 
@@ -120,10 +121,7 @@ pub extern "C" fn motion_plot(
 ) -> u64
     ensures { result ≡ Shared.word (Spec.plot_words (Plot.plot_answer (Shared.vessel oc os) (Shared.contact b1 r1) (Shared.contact b2 r2) (Shared.elapsed secs nanos))) part }
 {
-    let elapsed = Duration {
-        secs: secs,
-        nanos: nanos,
-    };
+    let elapsed = Duration { secs, nanos };
     words::word(
         plot_words(plot::target_from_plot(
             words::vessel(oc, os),

@@ -6,13 +6,14 @@ use native.Mathlib.Omega.{arith}
 use lib.Ieee.{Float}
 use Rattle.room.specs.Room.{max_contacts}
 use Rattle.policy.specs.declared.CpaPolicy.{CpaPolicy}
-use Rattle.assessment.specs.declared.assess.AssessAnswer.{AssessAnswer}
+use Rattle.std.specs.declared.result.Result.{Result}
+use Rattle.elementary.specs.declared.error.Refusal.{Refusal}
 use Rattle.assessment.specs.declared.assess.CollisionAssessment.{CollisionAssessment}
 use Rattle.targets.specs.declared.TargetAssessment.{TargetAssessment}
 use Rattle.exports_picture.specs.Words.{entry_of, with_answer, assess_at, after, pictured}
 
 module _ (floats : List Float) (policy : CpaPolicy) (start : List TargetAssessment) where
-  pub step : (i : ℕ) (ts next : List TargetAssessment) (a : AssessAnswer) → 1 ≤ i → ts ≡ after floats policy start (i - 1) → a ≡ assess_at floats policy i → next ≡ with_answer ts i a → next ≡ after floats policy start (i + 1 - 1)
+  pub step : (i : ℕ) (ts next : List TargetAssessment) (a : Result CollisionAssessment Refusal) → 1 ≤ i → ts ≡ after floats policy start (i - 1) → a ≡ assess_at floats policy i → next ≡ with_answer ts i a → next ≡ after floats policy start (i + 1 - 1)
   unfolding after
   step i ts next a h et ea en =
       en ∙ ap (with_answer ts i) ea ∙ ap (λ l. with_answer l i (assess_at floats policy i)) et

@@ -6,13 +6,14 @@ ghost use Rattle.std.specs.Prelude.{◌≡◌, length};
 ghost use Rattle.picture.specs.Picture as Picture;
 ghost use Rattle.exports_picture.specs.Words as Spec;
 
-use assessment::assess::{AssessAnswer, CollisionAssessment};
+use assessment::assess::CollisionAssessment;
+use elementary::error::Refusal;
 use motion::units::Distance;
 use motion::vessel::Vessel;
 use picture::CollisionPicture;
-use policy::{CpaPolicy, PolicyAnswer};
+use policy::CpaPolicy;
 use risk::CollisionRisk;
-use targets::{PerhapsTarget, TargetAssessment};
+use targets::TargetAssessment;
 use time::Duration;
 
 fn entry_of(place: usize, a: CollisionAssessment) -> TargetAssessment
@@ -24,17 +25,25 @@ fn entry_of(place: usize, a: CollisionAssessment) -> TargetAssessment
     }
 }
 
-fn with_answer(p: CollisionPicture, place: usize, answer: AssessAnswer) -> CollisionPicture
+fn with_answer(
+    p: CollisionPicture,
+    place: usize,
+    answer: Result<CollisionAssessment, Refusal>,
+) -> CollisionPicture
     ensures { Picture.targets result ≡ Spec.with_answer (Picture.targets p) place answer }
 {
     match answer {
-        AssessAnswer::Of(a) => p.push(entry_of(place, a)),
-        AssessAnswer::Refused(why) => p,
+        Ok(a) => p.push(entry_of(place, a)),
+        Err(why) => p,
     }
 }
 
 // Own course and speed, then bearing, range, course and speed of each contact.
-fn assess_at(floats: &[f64], policy: CpaPolicy, place: usize) -> AssessAnswer
+fn assess_at(
+    floats: &[f64],
+    policy: CpaPolicy,
+    place: usize,
+) -> Result<CollisionAssessment, Refusal>
     ensures { result ≡ Spec.assess_at floats.now policy place }
 {
     let at = 4 * (place % 64);
@@ -86,12 +95,12 @@ fn risk_of(code: u32) -> CollisionRisk
 }
 
 // The range of a target, and 0 for nobody.
-fn range_word(t: PerhapsTarget) -> u64
+fn range_word(t: Option<TargetAssessment>) -> u64
     ensures { result ≡ Spec.range_word t }
 {
     match t {
-        PerhapsTarget::Nothing => 0,
-        PerhapsTarget::Of(e) => {
+        None => 0,
+        Some(e) => {
             let a = e.assessment;
             let range = a.range();
             words::pattern(range.0)
@@ -121,12 +130,18 @@ fn word_of(p: CollisionPicture, part: u32) -> u64
     range_word(kept.most_dangerous())
 }
 
-fn word_by(floats: &[f64], policy: CpaPolicy, count: usize, first: AssessAnswer, part: u32) -> u64
+fn word_by(
+    floats: &[f64],
+    policy: CpaPolicy,
+    count: usize,
+    first: Result<CollisionAssessment, Refusal>,
+    part: u32,
+) -> u64
     ensures { result ≡ Spec.word_by floats.now policy count first part }
 {
     match first {
-        AssessAnswer::Of(a) => word_of(picture_of(floats, policy, count, a), part),
-        AssessAnswer::Refused(why) => 0,
+        Ok(a) => word_of(picture_of(floats, policy, count, a), part),
+        Err(why) => 0,
     }
 }
 
@@ -140,18 +155,9 @@ pub extern "C" fn avoidance_picture(
 ) -> u64
     ensures { result ≡ Spec.picture_word part count limit secs floats.now }
 {
-    let latest = Duration {
-        secs: secs,
-        nanos: 0,
-    };
+    let latest = Duration { secs, nanos: 0 };
     match CpaPolicy::new(Distance(limit), latest) {
-        PolicyAnswer::Of(policy) => word_by(
-            floats,
-            policy,
-            count,
-            assess_at(floats, policy, 0),
-            part,
-        ),
-        PolicyAnswer::Refused(why) => 0,
+        Ok(policy) => word_by(floats, policy, count, assess_at(floats, policy, 0), part),
+        Err(why) => 0,
     }
 }

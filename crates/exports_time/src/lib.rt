@@ -6,36 +6,34 @@ ghost use Rattle.std.specs.Prelude.{◌≡◌};
 ghost use Rattle.time.specs.Clock as Clock;
 ghost use Rattle.exports_time.specs.Time.{kind_of, secs_of, nanos_of};
 
-use time::{Duration, TimeAnswer};
+use time::{Duration, TimeError};
 
 // The kind of a time answer: 0 for a time, 1 for too long, 2 for none; and its seconds and nanoseconds.
-fn kind_in(t: TimeAnswer) -> u32
+fn kind_in(t: Result<Duration, TimeError>) -> u32
     ensures { result ≡ kind_of t }
 {
     match t {
-        TimeAnswer::Of(_) => 0,
-        TimeAnswer::TooLong => 1,
-        TimeAnswer::NoTime => 2,
+        Ok(_) => 0,
+        Err(TimeError::TooLong) => 1,
+        Err(TimeError::NoTime) => 2,
     }
 }
 
-fn secs_in(t: TimeAnswer) -> u64
+fn secs_in(t: Result<Duration, TimeError>) -> u64
     ensures { result ≡ secs_of t }
 {
     match t {
-        TimeAnswer::Of(d) => d.secs,
-        TimeAnswer::TooLong => 0,
-        TimeAnswer::NoTime => 0,
+        Ok(d) => d.secs,
+        Err(_) => 0,
     }
 }
 
-fn nanos_in(t: TimeAnswer) -> u32
+fn nanos_in(t: Result<Duration, TimeError>) -> u32
     ensures { result ≡ nanos_of t }
 {
     match t {
-        TimeAnswer::Of(d) => d.nanos,
-        TimeAnswer::TooLong => 0,
-        TimeAnswer::NoTime => 0,
+        Ok(d) => d.nanos,
+        Err(_) => 0,
     }
 }
 
@@ -78,10 +76,7 @@ pub extern "C" fn port_hours_nanos(hours: f64) -> u32
 pub extern "C" fn port_hours(secs: u64, nanos: u32) -> f64
     ensures { result ≡ Clock.hours_of (record { secs = secs; nanos = nanos }) }
 {
-    let d = Duration {
-        secs: secs,
-        nanos: nanos,
-    };
+    let d = Duration { secs, nanos };
     d.hours()
 }
 
@@ -89,10 +84,7 @@ pub extern "C" fn port_hours(secs: u64, nanos: u32) -> f64
 pub extern "C" fn port_is_before(secs: u64, nanos: u32, other_secs: u64, other_nanos: u32) -> bool
     ensures { result ≡ Clock.is_before (record { secs = secs; nanos = nanos }) (record { secs = other_secs; nanos = other_nanos }) }
 {
-    let d = Duration {
-        secs: secs,
-        nanos: nanos,
-    };
+    let d = Duration { secs, nanos };
     let other = Duration {
         secs: other_secs,
         nanos: other_nanos,

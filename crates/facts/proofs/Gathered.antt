@@ -1,4 +1,5 @@
 -- The facts, gathered: what their code owes.
+use Rattle.std.specs.Prelude.{Some}
 use mathlib.Core.Path.{◌≡◌, refl, sym, ap, ◌∙◌}
 use mathlib.Core.Bool.{Bool, true, false, ◌&&◌, not}
 use lib.Ieee.{Float, lt}
@@ -11,8 +12,7 @@ use Rattle.motion.specs.declared.vessel.Vessel.{Vessel}
 use Rattle.motion.specs.declared.vessel.Contact.{Contact}
 use Rattle.motion.specs.declared.vessel.Components.{Components}
 use Rattle.motion.specs.Vessel.{unit, velocity}
-use Rattle.situation.specs.declared.party.Perhaps.{Perhaps}
-use Rattle.situation.specs.declared.party.Perhaps.TheVariants as Perhaps
+use Rattle.std.specs.declared.option.Option.{Option}
 use Rattle.situation.specs.declared.party.Situation.{Situation}
 use Rattle.facts.specs.declared.Windward.{Windward}
 use Rattle.facts.specs.declared.Windward.TheVariants as Windward
@@ -21,7 +21,7 @@ use Rattle.situation.specs.Situation.{heading}
 use Rattle.situation.specs.Arguments.{quarter_turn}
 use Rattle.facts.specs.Facts.{relative_of, aspect_of, larger, speed_of, range_rate, is_closing, windward_of, facts_of}
 
-module _ (contact : Contact) (wind : Perhaps) (from : Direction) (is : wind ≡ Perhaps.Known from) (folded size : Float) (f : folded ≡ half_fold (contact.bearing.0 ⊖ (from.0 ⊕ half_turn))) (s : size ≡ abs folded) where
+module _ (contact : Contact) (wind : Option Direction) (from : Direction) (is : wind ≡ Some from) (folded size : Float) (f : folded ≡ half_fold (contact.bearing.0 ⊖ (from.0 ⊕ half_turn))) (s : size ≡ abs folded) where
   pub own_to_windward : lt size quarter_turn ≡ true → Windward.Own ≡ windward_of contact wind
   own_to_windward t = rw is rw (sym f) rw (sym s) rw t refl
 

@@ -1,5 +1,5 @@
 -- The facts of a situation that the rules speak of, operation by operation (rules.rs, `geometry_of`, `is_closing`, and the wind in `sailing_vessels`). Angles are taken from the headings, closing from the motion.
-use Rattle.std.specs.Prelude.{Bool, ◌&&◌, not, cond, Float}
+use Rattle.std.specs.Prelude.{Bool, ◌&&◌, not, cond, Float, None, Some}
 use Rattle.std.specs.Float.Ieee.{lt}
 use Rattle.laws.specs.Ops.{◌⊕◌, ◌⊖◌, ◌⊗◌}
 use Rattle.math.specs.Sign.{abs}
@@ -12,8 +12,7 @@ use Rattle.motion.specs.declared.vessel.Contact.{Contact}
 use Rattle.motion.specs.declared.vessel.Components.{Components}
 use Rattle.motion.specs.Vessel.{unit, velocity}
 use Rattle.situation.specs.declared.party.VesselCategory.{VesselCategory}
-use Rattle.situation.specs.declared.party.Perhaps.{Perhaps}
-use Rattle.situation.specs.declared.party.Perhaps.TheVariants as Perhaps
+use Rattle.std.specs.declared.option.Option.{Option}
 use Rattle.situation.specs.declared.party.Visibility.{Visibility}
 use Rattle.situation.specs.declared.party.Situation.{Situation}
 use Rattle.facts.specs.declared.Windward.{Windward}
@@ -48,9 +47,9 @@ is_closing contact own target =
     lt rate zero && not (is_effectively_zero rate (larger (speed_of (velocity own)) (speed_of (velocity target))))
 
 -- own craft is to windward if the other lies within 90 degrees of where the wind blows to
-abbrev pub windward_of : Contact → Perhaps → Windward
-windward_of contact Perhaps.Unknown = Windward.Unknown
-windward_of contact (Perhaps.Known from) = cond (lt (abs (half_fold (contact.bearing.0 ⊖ (from.0 ⊕ half_turn)))) quarter_turn) Windward.Own Windward.Target
+abbrev pub windward_of : Contact → Option Direction → Windward
+windward_of contact None = Windward.Unknown
+windward_of contact (Some from) = cond (lt (abs (half_fold (contact.bearing.0 ⊖ (from.0 ⊕ half_turn)))) quarter_turn) Windward.Own Windward.Target
 
 unfoldable pub facts_of : Situation → Facts
 facts_of s = record {

@@ -7,7 +7,7 @@ ghost use Rattle.facts.specs.Facts as Spec;
 use motion::units::{Direction, Speed};
 use motion::vessel;
 use motion::vessel::{Components, Contact, Vessel};
-use situation::party::{Perhaps, Situation, VesselCategory, Visibility};
+use situation::party::{Situation, VesselCategory, Visibility};
 
 // Which of two sailing vessels is to windward of the other.
 #[derive(Clone, Copy)]
@@ -79,12 +79,12 @@ pub fn is_closing(contact: Contact, own: Vessel, target: Vessel) -> bool
 }
 
 // Own craft is to windward if the other lies within 90 degrees of where the wind blows to.
-fn windward_of(contact: Contact, wind: Perhaps) -> Windward
+fn windward_of(contact: Contact, wind: Option<Direction>) -> Windward
     ensures { result ≡ Spec.windward_of contact wind }
 {
     match wind {
-        Perhaps::Unknown => Windward::Unknown,
-        Perhaps::Known(from) => {
+        None => Windward::Unknown,
+        Some(from) => {
             let downwind = angle::wrap180(contact.bearing.0 - (from.0 + 180.0));
             if math::abs(downwind) < 90.0 {
                 return Windward::Own;
@@ -101,27 +101,19 @@ pub fn facts_of(s: Situation) -> Facts
     let own = s.own;
     let target = s.target;
     let contact = s.contact;
-    let visibility = s.visibility;
-    let wind_from = s.wind_from;
-    let own_motion = own.motion;
-    let target_motion = target.motion;
-    let own_speed = own_motion.speed;
-    let target_speed = target_motion.speed;
-    let own_category = own.category;
-    let target_category = target.category;
     let relative = relative_of(contact, own.heading());
     let aspect = aspect_of(contact, target.heading());
-    let closing = is_closing(contact, own_motion, target_motion);
-    let windward = windward_of(contact, wind_from);
+    let closing = is_closing(contact, own.motion, target.motion);
+    let windward = windward_of(contact, s.wind_from);
     Facts {
-        relative: relative,
-        aspect: aspect,
-        closing: closing,
-        own_speed: own_speed,
-        target_speed: target_speed,
-        own: own_category,
-        target: target_category,
-        windward: windward,
-        visibility: visibility,
+        relative,
+        aspect,
+        closing,
+        own_speed: own.motion.speed,
+        target_speed: target.motion.speed,
+        own: own.category,
+        target: target.category,
+        windward,
+        visibility: s.visibility,
     }
 }

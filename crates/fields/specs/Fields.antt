@@ -4,7 +4,6 @@ use Rattle.text.specs.Text.{bytes}
 use Rattle.text.specs.Decimal.{decimal_of}
 use Rattle.motion.specs.declared.units.Distance.{Distance}
 use Rattle.relative_motion.specs.declared.approach.Approach.{Approach}
-use Rattle.relative_motion.specs.declared.approach.Approach.TheVariants as Approach
 use Rattle.risk.specs.declared.CollisionRisk.{CollisionRisk}
 use Rattle.risk.specs.declared.CollisionRisk.TheVariants as Risk
 pub use Rattle.number_fields.specs.Fields.{quantity_field}

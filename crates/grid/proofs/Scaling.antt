@@ -1,8 +1,8 @@
 -- What the code of the arcsine owes: the scale of the rest, found by doubling, and the three cases of the definition.
-use mathlib.Core.Path.{◌≡◌, refl, sym, ap, ◌∙◌}
+use mathlib.Core.Path.{◌≡◌, refl, sym, ap, ◌∙◌, subst}
 use mathlib.Core.Bool.{Bool, true, false, cond}
 use mathlib.Core.Logic.{◌⊎◌, inl, inr}
-use Prim.Native.Nat.{ℕ, zero, suc, ◌*◌, ◌-◌, ◌^◌, ◌/◌, ◌≤◌, ◌<◌}
+use Prim.Native.Nat.{ℕ, zero, suc, ◌+◌, ◌*◌, ◌-◌, ◌^◌, ◌/◌, ◌≤◌, ◌<◌}
 use native.Mathlib.Nat.{le_trans, div-le_self}
 use native.Mathlib.Omega.{arith}
 use lib.Arith.{lt→nleb, le→nltb}
@@ -26,13 +26,15 @@ unfolding scale_from
 scale_here (suc k) e f p B hk ep h s = sym (ap (λ t. cond t f (scale_from k e (2 * f))) (is_true (leb (2 ^ 54) (e * (f * f))) (le→leb (2 ^ 54) (e * (f * f)) (rw ep at h)))) ∙ s
 scale_here zero e f p B hk ep h s = elim hk [ ]
 
-pub scale_more : (k e f p B : ℕ) → 0 < k → p ≡ e * (f * f) → p < 2 ^ 54 → scale_from k e f ≡ B → scale_from (k - 1) e (2 * f) ≡ B
+pub scale_more : (n i e f p B : ℕ) → i < n → p ≡ e * (f * f) → p < 2 ^ 54 → scale_from (n - i) e f ≡ B → scale_from (n - (i + 1)) e (2 * f) ≡ B
 unfolding scale_from
-scale_more (suc k) e f p B hk ep h s = rw (less k) (sym (ap (λ t. cond t f (scale_from k e (2 * f))) (is_false (leb (2 ^ 54) (e * (f * f))) (lt→nleb (2 ^ 54) (e * (f * f)) (rw ep at h)))) ∙ s)
+scale_more n i e f p B h ep l s = go (n - (i + 1)) (subst (λ k. scale_from k e f ≡ B) (next n i h) s)
   where
-    less : (k : ℕ) → suc k - 1 ≡ k
-    less k = omega arith
-scale_more zero e f p B hk ep h s = elim hk [ ]
+    next : (n i : ℕ) → i < n → n - i ≡ suc (n - (i + 1))
+    next n i h = omega arith
+
+    go : (k : ℕ) → scale_from (suc k) e f ≡ B → scale_from k e (2 * f) ≡ B
+    go k s = sym (ap (λ t. cond t f (scale_from k e (2 * f))) (is_false (leb (2 ^ 54) (e * (f * f))) (lt→nleb (2 ^ 54) (e * (f * f)) (rw ep at l)))) ∙ s
 
 pub scale_ends : (k e f B : ℕ) → k ≤ 0 → scale_from k e f ≡ B → f ≡ B
 unfolding scale_from

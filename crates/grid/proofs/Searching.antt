@@ -1,5 +1,5 @@
 -- The search by halves finds the place where a test changes, and whatever passes the check of such a place is that place.
-use mathlib.Core.Path.{◌≡◌, sym, ap, subst}
+use mathlib.Core.Path.{◌≡◌, sym, ap, subst, ◌∙◌}
 use mathlib.Core.Bool.{Bool, true, false, not, cond, ◌&&◌}
 use Prim.Native.Nat.{ℕ, zero, suc, ◌+◌, ◌-◌, ◌^◌, ◌/◌, ◌≤◌, ◌<◌}
 use native.Mathlib.Nat.{le_antisymm, pow-succ', add-zero, zero-add}
@@ -88,18 +88,22 @@ pub found_is : (f N : ℕ) (test : ℕ → Bool) → ((A : ℕ) → A < N → T 
 unfolding greatest_to
 found_is f N test h p k A r = is_greatest f (up_to N test) (up_to_falls N test h) (starts N test p) (ends f N test k) A (found-last N test A r)
 
--- ---- a turn of a loop that halves: the test's answer t at lo + half / 2
-less_one : (f : ℕ) → suc f - 1 ≡ f
-less_one f = omega arith
+-- ---- a turn of a loop that halves, after i of n turns: the test's answer t at lo + half / 2
+one_less : (n i : ℕ) → i < n → n - i ≡ suc (n - (i + 1))
+one_less n i h = omega arith
 
-pub halved : (f half : ℕ) → 0 < f → half ≡ 2 ^ f → half / 2 ≡ 2 ^ (f - 1)
-halved (suc g) half h e = omega (arith, pow-succ' 2 g, ap (λ t. 2 ^ t) (less_one g))
-halved zero half h e = elim h [ ]
+pub halved : (n i half : ℕ) → i < n → half ≡ 2 ^ (n - i) → half / 2 ≡ 2 ^ (n - (i + 1))
+halved n i half h e = go (n - (i + 1)) (e ∙ ap (λ t. 2 ^ t) (one_less n i h))
+  where
+    go : (g : ℕ) → half ≡ 2 ^ suc g → half / 2 ≡ 2 ^ g
+    go g e = omega (arith, pow-succ' 2 g)
 
-pub turn : (f : ℕ) (test : ℕ → Bool) (lo half B : ℕ) (t : Bool) → 0 < f → half ≡ 2 ^ f → greatest f test lo ≡ B → t ≡ test (lo + half / 2) → greatest (f - 1) test (cond t (lo + half / 2) lo) ≡ B
+pub turn : (n i : ℕ) (test : ℕ → Bool) (lo half B : ℕ) (t : Bool) → i < n → half ≡ 2 ^ (n - i) → greatest (n - i) test lo ≡ B → t ≡ test (lo + half / 2) → greatest (n - (i + 1)) test (cond t (lo + half / 2) lo) ≡ B
 unfolding greatest
-turn (suc g) test lo half B t h e b u = rw (u, halved (suc g) half h e, less_one g) b
-turn zero test lo half B t h e b u = elim h [ ]
+turn n i test lo half B t h e b u = go (n - (i + 1)) (halved n i half h e) (subst (λ f. greatest f test lo ≡ B) (one_less n i h) b)
+  where
+    go : (g : ℕ) → half / 2 ≡ 2 ^ g → greatest (suc g) test lo ≡ B → greatest g test (cond t (lo + half / 2) lo) ≡ B
+    go g e b = rw (u, e) b
 
 pub turned : (f : ℕ) (test : ℕ → Bool) (lo B : ℕ) → f ≤ 0 → greatest f test lo ≡ B → lo ≡ B
 unfolding greatest

@@ -7,10 +7,10 @@ use native.Mathlib.Omega.{arith}
 use lib.IntN.{pos, negsuc}
 use lib.Dec.{T, eqb, ltb, ltb→lt, nltb→le, lt→ltb, eqb→eq, lit<, lit≤}
 use lib.Pow.{pow_pos, pow_mono}
-use lib.Ieee.{Float, nan, inf, fin, binary64, fits, up, down, round, mul, lt, eq, below, is_nan, to_bits, of_bits, size}
+use lib.Ieee.{Float, nan, inf, fin, binary64, fits, round, mul, lt, eq, below, is_nan, to_bits, of_bits, size}
 use lib.Ieee.Bits.{is_true}
 use lib.Ieee.Exact.{HasValue}
-use lib.Ieee.Fits.{round-fits, and_l, and_r, eq→eqb}
+use lib.Ieee.Fits.{round-fits, mul-fits, and_l, and_r, eq→eqb}
 use lib.Ieee.Scale.{finite}
 use Rattle.laws.specs.Units.{Units, sign, units_of}
 use Rattle.laws.proofs.Bools.{holds, fails, refuted, and-false}
@@ -30,6 +30,7 @@ use Rattle.grid.proofs.Octant.{arctangent_found}
 use Rattle.grid.proofs.Placing.{Around, across, along, arctangent_around}
 use Rattle.grid.proofs.Rescaling.{same_arctangent, same_point}
 use Rattle.arcsine.specs.Asin.{zero}
+use Rattle.inverse.specs.declared.Magnitude.{Magnitude}
 use Rattle.inverse.specs.Atan2.{scaled_by, octant, angle_steps, both_finite, atan2, IsAngle, IsAtan2}
 use Rattle.inverse.proofs.Octants.{scaled_exact, scaled-least}
 
@@ -261,21 +262,31 @@ pub all_cut : (n k : ℕ) → n < 2 ^ 64 → 64 ≤ k → 0 ≡ n / 2 ^ k
 all_cut n k h l = sym (div-eq_of_lt (lt_of_lt_of_le h (pow_mono l)))
 
 -- ---- a small number raised
-pub raised : (u : Float) → T (fits binary64 u) → T (finite u) → sign u ≡ false → units_of u < 2 ^ 52 → let r = mul binary64 u (fin false 1 (pos 54)) in T (finite r) × (sign r ≡ false) × (units_of r ≡ units_of u * 2 ^ 54)
-raised u t f s h = let v = mul_power u 54 t f (lt_of_le_of_lt (mul-le-mul_right (2 ^ 54) (le_of_lt h)) (lit< tt)) in let r = finite_of_units (mul binary64 u (fin false 1 (pos 54))) (sign u) (units_of u * 2 ^ 54) v in (r.0, r.1 ∙ s, units_are (mul binary64 u (fin false 1 (pos 54))) (sign u) (units_of u * 2 ^ 54) v)
+module _ (n : Magnitude) (h : units_of n.value < 2 ^ 52) where
+  product : Units (mul binary64 n.value (fin false 1 (pos 54))) (sign n.value) (units_of n.value * 2 ^ 54)
+  product = mul_power n.value 54 (holds n.held) (holds n.number) (lt_of_le_of_lt (mul-le-mul_right (2 ^ 54) (le_of_lt h)) (lit< tt))
 
-pub enough : (n : ℕ) → 0 < n → 2 ^ 52 ≤ n * 2 ^ 54
-enough n h = omega arith
+  pub raised-held : fits binary64 (mul binary64 n.value (fin false 1 (pos 54))) ≡ true
+  raised-held = is_true _ (mul-fits binary64 n.value (fin false 1 (pos 54)))
+
+  pub raised-clear : (finite (mul binary64 n.value (fin false 1 (pos 54))) ≡ true) × (sign (mul binary64 n.value (fin false 1 (pos 54))) ≡ false)
+  raised-clear = let r = finite_of_units (mul binary64 n.value (fin false 1 (pos 54))) (sign n.value) (units_of n.value * 2 ^ 54) product in (is_true _ r.0, r.1 ∙ n.clear)
+
+  pub raised-units : units_of (mul binary64 n.value (fin false 1 (pos 54))) ≡ units_of n.value * 2 ^ 54
+  raised-units = units_are (mul binary64 n.value (fin false 1 (pos 54))) (sign n.value) (units_of n.value * 2 ^ 54) product
 
 -- the test for that
-normal_units_is : (u : Float) → T (fits binary64 u) → T (finite u) → sign u ≡ false → lt u (of_bits binary64 0x0010_0000_0000_0000) ≡ ltb (units_of u) (2 ^ 52)
-normal_units_is u t f s = lt-units u (of_bits binary64 0x0010_0000_0000_0000) (units_of u) (2 ^ 52) (subst (λ b. Units u b (units_of u)) s (own_units u t f)) (unfold of_bits in (refl, refl))
+clear_units : (n : Magnitude) → Units n.value false (units_of n.value)
+clear_units n = subst (λ b. Units n.value b (units_of n.value)) n.clear (own_units n.value (holds n.held) (holds n.number))
 
-pub is_subnormal : (u : Float) → T (fits binary64 u) → T (finite u) → sign u ≡ false → lt u (of_bits binary64 0x0010_0000_0000_0000) ≡ true → units_of u < 2 ^ 52
-is_subnormal u t f s h = ltb→lt (units_of u) (2 ^ 52) (holds (sym (normal_units_is u t f s) ∙ h))
+normal_units_is : (n : Magnitude) → lt n.value (of_bits binary64 0x0010_0000_0000_0000) ≡ ltb (units_of n.value) (2 ^ 52)
+normal_units_is n = lt-units n.value (of_bits binary64 0x0010_0000_0000_0000) (units_of n.value) (2 ^ 52) (clear_units n) (unfold of_bits in (refl, refl))
 
-pub is_normal : (u : Float) → T (fits binary64 u) → T (finite u) → sign u ≡ false → lt u (of_bits binary64 0x0010_0000_0000_0000) ≡ false → 2 ^ 52 ≤ units_of u
-is_normal u t f s h = nltb→le (units_of u) (2 ^ 52) (subst (λ b. T (not b)) (sym h ∙ normal_units_is u t f s) tt)
+pub is_subnormal : (n : Magnitude) → lt n.value (of_bits binary64 0x0010_0000_0000_0000) ≡ true → units_of n.value < 2 ^ 52
+is_subnormal n h = ltb→lt (units_of n.value) (2 ^ 52) (holds (sym (normal_units_is n) ∙ h))
+
+pub is_normal : (n : Magnitude) → lt n.value (of_bits binary64 0x0010_0000_0000_0000) ≡ false → 2 ^ 52 ≤ units_of n.value
+is_normal n h = nltb→le (units_of n.value) (2 ^ 52) (subst (λ b. T (not b)) (sym h ∙ normal_units_is n) tt)
 
 -- ---- the cases of the angle
 pub flat_case : (left : Bool) (x y : ℕ) → eqb y 0 ≡ true → cond left (2 * half_pi_steps) 0 ≡ angle_steps left x y
@@ -295,24 +306,20 @@ unfolding angle_steps
 low_case left x y t r e f g h k = rw (e, f, g) (k ∙ ap (λ t. placed false left t) h)
 
 -- the tests of the code, on positive numbers
-module _ (a : Float) (t : T (fits binary64 a)) (f : T (finite a)) (s : sign a ≡ false) where
-  clear : Units a false (units_of a)
-  clear = subst (λ b. Units a b (units_of a)) s (own_units a t f)
+pub is_zero : (n : Magnitude) → {b : Bool} → eq n.value zero ≡ b → eqb (units_of n.value) 0 ≡ b
+is_zero n e = sym (eq-units n.value zero (units_of n.value) 0 (clear_units n) (unfold of_bits in (refl, refl))) ∙ e
 
-  pub is_zero : (b : Bool) → eq a zero ≡ b → eqb (units_of a) 0 ≡ b
-  is_zero b e = sym (eq-units a zero (units_of a) 0 clear (unfold of_bits in (refl, refl))) ∙ e
+pub not-zero : (n : Magnitude) → eq n.value zero ≡ false → 0 < units_of n.value
+not-zero n e = go (units_of n.value) (is_zero n e)
+  where
+    go : (n : ℕ) → eqb n 0 ≡ false → 0 < n
+    go n e = by_size n (λ z. fails e (eq→eqb z))
+      where
+        by_size : (n : ℕ) → (n ≡ 0 → ⊥) → 0 < n
+        by_size n f = omega (arith, f)
 
-  pub not-zero : eq a zero ≡ false → 0 < units_of a
-  not-zero e = go (units_of a) (is_zero false e)
-    where
-      go : (n : ℕ) → eqb n 0 ≡ false → 0 < n
-      go n e = by_size n (λ z. fails e (eq→eqb z))
-        where
-          by_size : (n : ℕ) → (n ≡ 0 → ⊥) → 0 < n
-          by_size n f = omega (arith, f)
-
-  pub is_below : (c : Float) → T (fits binary64 c) → T (finite c) → sign c ≡ false → (b : Bool) → lt a c ≡ b → ltb (units_of a) (units_of c) ≡ b
-  is_below c tc fc sc b e = sym (lt-units a c (units_of a) (units_of c) clear (subst (λ b. Units c b (units_of c)) sc (own_units c tc fc))) ∙ e
+pub is_below : (n m : Magnitude) → {b : Bool} → lt n.value m.value ≡ b → ltb (units_of n.value) (units_of m.value) ≡ b
+is_below n m e = sym (lt-units n.value m.value (units_of n.value) (units_of m.value) (clear_units n) (clear_units m)) ∙ e
 
 -- ---- the answer
 pub answer_finite : (y x r : Float) (a b : Float) (fy fx : Bool) (t : ℕ) → fy ≡ finite y → fx ≡ finite x → fy ≡ true → fx ≡ true → a ≡ abs x → b ≡ abs y → t ≡ angle_steps (lt x zero) (units_of a) (units_of b) → r ≡ round binary64 (lt y zero) t (2 ^ 49) → r ≡ atan2 y x
@@ -328,10 +335,10 @@ unfolding atan2 both_finite
 answer_no_y y x fy e h = rw (sym e ∙ h) refl
 
 -- a finite number's size is finite and has its sign clear
-pub size_of : (x a : Float) (b : Bool) → b ≡ finite x → b ≡ true → a ≡ abs x → T (finite a) × (sign a ≡ false)
-size_of x a b e h k = subst (λ a. T (finite a) × (sign a ≡ false)) (sym k) (go x (holds (sym e ∙ h)))
+pub size_of : (x : Float) → finite x ≡ true → (finite (abs x) ≡ true) × (sign (abs x) ≡ false)
+size_of x h = go x (holds h)
   where
-    go : (x : Float) → T (finite x) → T (finite (abs x)) × (sign (abs x) ≡ false)
+    go : (x : Float) → T (finite x) → (finite (abs x) ≡ true) × (sign (abs x) ≡ false)
     go nan f = absurd f
     go (inf s) f = absurd f
-    go (fin s m e) f = unfold abs in (tt, refl)
+    go (fin s m e) f = unfold abs in (refl, refl)

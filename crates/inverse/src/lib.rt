@@ -2,16 +2,18 @@
 // f64s apart and puts the answer together, which is exact. What is proved of the answers: specs/Atan2.
 #![tactic(auto)]
 
-ghost use Rattle.std.specs.Prelude.{◌≡◌, false, ◌*◌, ◌/◌, ◌^◌, ◌≤◌, ◌<◌, T};
+ghost use Rattle.std.specs.Prelude.{◌≡◌, true, false, ◌*◌, ◌/◌, ◌^◌, ◌≤◌, ◌<◌};
 ghost use Rattle.std.specs.Float.{binary64};
-ghost use Rattle.std.specs.Float.Ieee.{round};
+ghost use Rattle.std.specs.Float.Ieee.{fits};
 ghost use Rattle.std.specs.Float.Ieee.Scale.{finite};
-ghost use Rattle.laws.specs.Units as Size;
+ghost use Rattle.laws.specs.Units.{sign, units_of};
+ghost use Rattle.math.specs.Sign as Sign;
 ghost use Rattle.grid.specs.Grid.{last_step};
 ghost use Rattle.grid.specs.Arctangent as Arctangent;
 ghost use Rattle.inverse.specs.Atan2 as Atan2;
 
 pub use arcsine::asin;
+use math::LEADING;
 
 // The step of the arctangent, 2^-49.
 const STEP: f64 = 1.7763568394002505e-15;
@@ -24,30 +26,56 @@ const NORMAL: f64 = 2.2250738585072014e-308;
 
 const RAISE: f64 = 18014398509481984.0;
 
-// 2^52: the weight of the leading digit of a normal f64, and of the exponent's field in its pattern.
-const LEADING: u64 = 4503599627370496;
-
-// An f64 of clear sign: `digits` times 2^`place` units of 2^-1074.
+// A number of units of 2^-1074: `digits` times 2^`place`.
 #[derive(Clone, Copy)]
 struct Parts {
     digits: u64,
     place: u64,
 }
 
-fn taken_apart(x: f64) -> Parts
-    requires { T (finite x) × (Size.sign x ≡ false) }
-    ensures { (Size.units_of x ≡ result.digits * 2 ^ result.place) × (result.digits < 2 ^ 53) × (0 < result.place → 2 ^ 52 ≤ result.digits) }
-{
-    let pattern = f64::to_bits(x);
-    if pattern < LEADING {
-        return Parts {
-            digits: pattern,
-            place: 0,
-        };
+// The size of a finite f64.
+#[derive(Clone, Copy)]
+struct Magnitude {
+    value: f64,
+    ghost held: { fits binary64 value ≡ true },
+    ghost number: { finite value ≡ true },
+    ghost clear: { sign value ≡ false },
+}
+
+impl Magnitude {
+    fn of(x: f64) -> Magnitude
+        requires { finite x ≡ true }
+        ensures { result.value ≡ Sign.abs x }
+    {
+        Magnitude {
+            value: math::abs(x),
+        }
     }
-    Parts {
-        digits: pattern % LEADING + LEADING,
-        place: pattern / LEADING - 1,
+
+    // 2^54 times a size that is below the normal ones.
+    fn raised(self) -> Magnitude
+        requires { units_of self.value < 2 ^ 52 }
+        ensures { units_of result.value ≡ units_of self.value * 2 ^ 54 }
+    {
+        Magnitude {
+            value: self.value * RAISE,
+        }
+    }
+
+    fn taken_apart(self) -> Parts
+        ensures { (units_of self.value ≡ result.digits * 2 ^ result.place) × (result.digits < 2 ^ 53) × (0 < result.place → 2 ^ 52 ≤ result.digits) }
+    {
+        let pattern = f64::to_bits(self.value);
+        if pattern < LEADING {
+            return Parts {
+                digits: pattern,
+                place: 0,
+            };
+        }
+        Parts {
+            digits: pattern % LEADING + LEADING,
+            place: pattern / LEADING - 1,
+        }
     }
 }
 
@@ -55,29 +83,26 @@ fn taken_apart(x: f64) -> Parts
 fn cut(n: u64, places: u64) -> u64
     ensures { result ≡ n / 2 ^ places }
 {
-    if places < 64 {
-        return n >> places;
-    }
-    0
+    if places < 64 { n >> places } else { 0 }
 }
 
 // The arctangent of v / u in steps, for a normal u that is not smaller than v.
-fn normal_octant(u: f64, v: f64) -> u64
-    requires { T (finite u) × T (finite v) × (Size.sign u ≡ false) × (Size.sign v ≡ false) × (2 ^ 52 ≤ Size.units_of u) × (Size.units_of v ≤ Size.units_of u) }
-    ensures { (result ≡ Atan2.octant (Size.units_of u) (Size.units_of v)) × (result ≤ last_step) }
+fn normal_octant(u: Magnitude, v: Magnitude) -> u64
+    requires { (2 ^ 52 ≤ units_of u.value) × (units_of v.value ≤ units_of u.value) }
+    ensures { (result ≡ Atan2.octant (units_of u.value) (units_of v.value)) × (result ≤ last_step) }
 {
-    let p = taken_apart(u);
-    let q = taken_apart(v);
+    let p = u.taken_apart();
+    let q = v.taken_apart();
     arcs::arctangent(32 * p.digits, cut(32 * q.digits, p.place - q.place))
 }
 
 // The same for any u that is not 0.
-fn octant(u: f64, v: f64) -> u64
-    requires { T (finite u) × T (finite v) × (Size.sign u ≡ false) × (Size.sign v ≡ false) × (0 < Size.units_of u) × (Size.units_of v ≤ Size.units_of u) }
-    ensures { (result ≡ Atan2.octant (Size.units_of u) (Size.units_of v)) × (result ≤ last_step) }
+fn octant(u: Magnitude, v: Magnitude) -> u64
+    requires { (0 < units_of u.value) × (units_of v.value ≤ units_of u.value) }
+    ensures { (result ≡ Atan2.octant (units_of u.value) (units_of v.value)) × (result ≤ last_step) }
 {
-    if u < NORMAL {
-        return normal_octant(u * RAISE, v * RAISE);
+    if u.value < NORMAL {
+        return normal_octant(u.raised(), v.raised());
     }
     normal_octant(u, v)
 }
@@ -101,32 +126,22 @@ fn placed(steep: bool, left: bool, t: u64) -> u64
 }
 
 // The angle of the point (a, b), or of (-a, b) where `left` is true, in steps.
-fn angle(left: bool, a: f64, b: f64) -> u64
-    requires { T (finite a) × T (finite b) × (Size.sign a ≡ false) × (Size.sign b ≡ false) }
-    ensures { (result ≡ Atan2.angle_steps left (Size.units_of a) (Size.units_of b)) × (result < 2 ^ 53) }
+fn angle(left: bool, a: Magnitude, b: Magnitude) -> u64
+    ensures { (result ≡ Atan2.angle_steps left (units_of a.value) (units_of b.value)) × (result < 2 ^ 53) }
 {
-    if b == 0.0 {
+    if b.value == 0.0 {
         if left {
             return 2 * HALF_PI;
         }
         return 0;
     }
-    if a == 0.0 {
+    if a.value == 0.0 {
         return HALF_PI;
     }
-    if a < b {
+    if a.value < b.value {
         return placed(true, left, octant(b, a));
     }
     placed(false, left, octant(a, b))
-}
-
-// t / 2^49, exactly, with the sign set or not.
-fn from_steps(minus: bool, t: u64) -> f64
-    requires { t < 2 ^ 53 }
-    ensures { result ≡ round binary64 minus t (2 ^ 49) }
-{
-    let r = t as f64 * STEP;
-    if minus { -r } else { r }
 }
 
 // The angle of the point (x, y); not a number where one of them is not finite.
@@ -135,8 +150,8 @@ pub fn atan2(y: f64, x: f64) -> f64
 {
     if math::is_finite(y) {
         if math::is_finite(x) {
-            let t = angle(x < 0.0, math::abs(x), math::abs(y));
-            return from_steps(y < 0.0, t);
+            let t = angle(x < 0.0, Magnitude::of(x), Magnitude::of(y));
+            return math::multiple(y < 0.0, t, STEP);
         }
         return 0.0 / 0.0;
     }

@@ -1,4 +1,5 @@
 -- How long the lines are at most, so that a program can show that what it prints fits the room: the lines on 57 contacts and the answer do.
+use Rattle.std.specs.Prelude.{None, Some}
 use Prim.Native.Nat.{ℕ, ◌+◌, ◌*◌, ◌≤◌}
 use native.Mathlib.Omega.{arith}
 use lib.Dec.{lit≤}
@@ -14,22 +15,16 @@ use Rattle.elementary.specs.declared.error.Refusal.{Refusal}
 use Rattle.elementary.specs.Refusal.{number_of}
 use Rattle.motion.specs.declared.units.Distance.{Distance}
 use Rattle.relative_motion.specs.declared.approach.Approach.{Approach}
-use Rattle.relative_motion.specs.declared.approach.Approach.TheVariants as Approach
 use Rattle.risk.specs.declared.CollisionRisk.{CollisionRisk}
 use Rattle.risk.specs.declared.CollisionRisk.TheVariants as Risk
 use Rattle.colregs.specs.declared.answer.Ruling.{Ruling}
 use Rattle.colregs.specs.declared.answer.Side.TheVariants as Tack
 use Rattle.colregs.specs.declared.answer.Encounter.{Encounter}
-use Rattle.colregs.specs.declared.answer.Encounter.TheVariants as Encounter
 use Rattle.colregs.specs.declared.answer.Responsibility.{Responsibility}
-use Rattle.colregs.specs.declared.answer.Responsibility.TheVariants as Responsibility
 use Rattle.colregs.specs.declared.answer.Rule.{Rule}
-use Rattle.colregs.specs.declared.answer.Rule.TheVariants as Rule
 use Rattle.colregs.specs.Ruling.{rule_number}
 use Rattle.manoeuvre.specs.declared.Side.{Side as Turn}
-use Rattle.manoeuvre.specs.declared.Side.TheVariants as Turn
-use Rattle.manoeuvre.specs.declared.Limiting.{Limiting}
-use Rattle.manoeuvre.specs.declared.Limiting.TheVariants as Limiting
+use Rattle.std.specs.declared.option.Option.{Option}
 use Rattle.rulings.specs.declared.RuledManoeuvre.{RuledManoeuvre}
 use Rattle.lines.specs.Lines.{contact_line, side_field, passing_field, limiting_field, alter_line, refused_line}
 
@@ -89,15 +84,15 @@ unfolding bytes
 side_short Turn.Starboard = lit≤ tt
 side_short Turn.Port = lit≤ tt
 
-passing_short : (l : Limiting) (d : Distance) → length (passing_field l d) ≤ 24
+passing_short : (l : Option ℕ) (d : Distance) → length (passing_field l d) ≤ 24
 unfolding bytes
-passing_short Limiting.Nobody d = lit≤ tt
-passing_short (Limiting.Contact place) d = quantity_short d.0
+passing_short None d = lit≤ tt
+passing_short (Some place) d = quantity_short d.0
 
-limiting_short : (l : Limiting) (id : ℕ) → length (limiting_field l id) ≤ 20
+limiting_short : (l : Option ℕ) (id : ℕ) → length (limiting_field l id) ≤ 20
 unfolding bytes
-limiting_short Limiting.Nobody id = lit≤ tt
-limiting_short (Limiting.Contact place) id = decimal_short id
+limiting_short None id = lit≤ tt
+limiting_short (Some place) id = decimal_short id
 
 pub alter_short : (m : RuledManoeuvre) (id : ℕ) → length (alter_line m id) ≤ 104
 unfolding alter_line bytes

@@ -5,9 +5,8 @@
 ghost use Rattle.std.specs.Prelude.{◌≡◌};
 ghost use Rattle.manoeuvre.specs.Manoeuvre as Spec;
 
-use constraints::PerhapsRate;
 use motion::units::{Angle, Direction, Distance, RateOfTurn};
-use time::{Duration, TimeAnswer};
+use time::Duration;
 
 #[derive(Clone, Copy)]
 pub enum Side {
@@ -15,55 +14,22 @@ pub enum Side {
     Port,
 }
 
-// The time that the alteration takes, where a rate of turn is given and the time is not too long.
-#[derive(Clone, Copy)]
-pub enum TurnTime {
-    Nothing,
-    Of(Duration),
-}
-
-// The contact that passes closest, by its place in the list.
-#[derive(Clone, Copy)]
-pub enum Limiting {
-    Nobody,
-    Contact(usize),
-}
-
 // The alteration is positive to starboard.
 #[derive(Clone, Copy)]
 pub struct AvoidanceManoeuvre {
     course: Direction,
     alteration: Angle,
-    turn_time: TurnTime,
+    turn_time: Option<Duration>,
     least_passing: Distance,
-    limiting: Limiting,
+    limiting: Option<usize>,
 }
 
-// A number of seconds, where it is a time.
-fn in_time(answer: TimeAnswer) -> TurnTime
-    ensures { result ≡ Spec.in_time answer }
-{
-    match answer {
-        TimeAnswer::Of(d) => TurnTime::Of(d),
-        TimeAnswer::TooLong => TurnTime::Nothing,
-        TimeAnswer::NoTime => TurnTime::Nothing,
-    }
-}
-
-fn turned(magnitude: f64, rate: RateOfTurn) -> TurnTime
-    ensures { result ≡ Spec.turned magnitude rate }
-{
-    in_time(time::duration_from_secs(magnitude / rate.0 * 60.0))
-}
-
-// The time that a turn of a magnitude in degrees takes at a rate.
-pub fn turn_time(magnitude: f64, rate: PerhapsRate) -> TurnTime
+// The time that a turn of a magnitude in degrees takes at a rate; none without a rate, or where it is too long.
+pub fn turn_time(magnitude: f64, rate: Option<RateOfTurn>) -> Option<Duration>
     ensures { result ≡ Spec.turn_time magnitude rate }
 {
-    match rate {
-        PerhapsRate::Nothing => TurnTime::Nothing,
-        PerhapsRate::Of(r) => turned(magnitude, r),
-    }
+    let rate = rate?;
+    time::duration_from_secs(magnitude / rate.0 * 60.0).ok()
 }
 
 impl AvoidanceManoeuvre {
@@ -71,18 +37,18 @@ impl AvoidanceManoeuvre {
     pub fn new(
         course: Direction,
         alteration: Angle,
-        time: TurnTime,
+        time: Option<Duration>,
         passing: Distance,
-        limiting: Limiting,
+        limiting: Option<usize>,
     ) -> AvoidanceManoeuvre
         ensures { result ≡ Spec.manoeuvre course alteration time passing limiting }
     {
         AvoidanceManoeuvre {
-            course: course,
-            alteration: alteration,
+            course,
+            alteration,
             turn_time: time,
             least_passing: passing,
-            limiting: limiting,
+            limiting,
         }
     }
 
@@ -104,15 +70,14 @@ impl AvoidanceManoeuvre {
     pub fn side(self) -> Side
         ensures { result ≡ Spec.side_of self.alteration }
     {
-        let alteration = self.alteration;
-        if alteration.0 < 0.0 {
+        if self.alteration.0 < 0.0 {
             return Side::Port;
         }
         Side::Starboard
     }
 
     // The time that the turn takes.
-    pub fn turn_time(self) -> TurnTime
+    pub fn turn_time(self) -> Option<Duration>
         ensures { result ≡ self.turn_time }
     {
         self.turn_time
@@ -126,7 +91,7 @@ impl AvoidanceManoeuvre {
     }
 
     // The contact that passes at it.
-    pub fn limiting(self) -> Limiting
+    pub fn limiting(self) -> Option<usize>
         ensures { result ≡ self.limiting }
     {
         self.limiting

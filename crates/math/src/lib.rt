@@ -3,9 +3,9 @@
 // in crates of their own.
 #![tactic(auto)]
 
-ghost use Rattle.std.specs.Prelude.{◌≡◌, pos};
+ghost use Rattle.std.specs.Prelude.{◌≡◌, ℕ, suc, ◌<◌, ◌≤◌, ◌^◌, false, pos, negsuc};
 ghost use Rattle.std.specs.Float.Ieee as Ieee;
-ghost use Rattle.std.specs.Float.{binary64};
+ghost use Rattle.std.specs.Float.{binary64, fin};
 ghost use Rattle.std.specs.Float.Ieee.Scale.{finite};
 ghost use Rattle.math.specs.Convert.{to_radians, to_degrees};
 ghost use Rattle.math.specs.Sign as Sign;
@@ -14,6 +14,9 @@ ghost use Rattle.math.specs.Test as Test;
 
 // The weight of an f64's sign bit: 2^63.
 const SIGN_BIT: u64 = 9223372036854775808;
+
+// 2^52: the weight of a normal f64's leading digit, and of the exponent's field in its pattern.
+pub const LEADING: u64 = 4503599627370496;
 
 // Degrees in a radian, as math.rs has them.
 pub const DEGREES_PER_RADIAN: f64 = 180.0 / 3.141592653589793;
@@ -40,19 +43,17 @@ pub fn abs(x: f64) -> f64
     ensures { result ≡ Sign.abs x }
 {
     if x == x {
-        return f64::from_bits(f64::to_bits(x) % SIGN_BIT);
+        f64::from_bits(f64::to_bits(x) % SIGN_BIT)
+    } else {
+        x
     }
-    x
 }
 
 // Whether the sign is set. A NaN's is not.
 fn is_sign_negative(x: f64) -> bool
     ensures { result ≡ Sign.sign x }
 {
-    if x == x {
-        return f64::to_bits(x) >= SIGN_BIT;
-    }
-    false
+    x == x && f64::to_bits(x) >= SIGN_BIT
 }
 
 // Whether x is a number and not infinite.
@@ -97,4 +98,24 @@ pub fn count_to_f64(count: usize) -> f64
     ensures { result ≡ Ieee.of_int binary64 (pos count) }
 {
     std::num::nearest_u64_to_f64(count as u64)
+}
+
+// 2^k, and 0 where that is no u64.
+pub fn power_of_two(k: u64) -> u64
+    ensures power { k < 64 → result ≡ 2 ^ k }
+    ensures none { 64 ≤ k → result ≡ 0 }
+{
+    if k < 64 { 1 << k } else { 0 }
+}
+
+// n times a unit that is a power of two below one, with the sign set or not: exactly, for an n of
+// at most 2^53, and 0 for a larger one.
+pub fn multiple(minus: bool, n: u64, unit: f64) -> f64
+    ensures { (i : ℕ) → n ≤ 2 ^ 53 → unit ≡ fin false 1 (negsuc i) → result ≡ Ieee.round binary64 minus n (2 ^ suc i) }
+{
+    if n > 2 * LEADING {
+        return 0.0;
+    }
+    let y = n as f64 * unit;
+    if minus { -y } else { y }
 }

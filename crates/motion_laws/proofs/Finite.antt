@@ -1,4 +1,5 @@
 -- On accepted arguments nothing on the way to a closest point of approach is NaN or infinite, each elementary function is called inside its domain, and the time fits.
+use Rattle.std.specs.Prelude.{Err, Ok}
 use mathlib.Core.Path.{◌≡◌, refl, sym, ap, ◌∙◌, subst}
 use mathlib.Core.Bool.{Bool, true, false, not, ◌||◌, cond, true≢false}
 use Prim.Native.Nat.{ℕ, zero, suc, ◌+◌, ◌*◌, ◌^◌, ◌≤◌, ◌<◌}
@@ -23,7 +24,9 @@ use Rattle.angle.specs.Fold.{whole_fold, IsDirection}
 use Rattle.angle.proofs.Range.{whole_fold_range}
 use Rattle.time.specs.Clock.{seconds_per_hour, clock, nanos_in, from_seconds, from_hours}
 use Rattle.time.specs.Clock as Clock
-use Rattle.time.specs.declared.TimeAnswer.TheVariants as Time
+use Rattle.std.specs.declared.result.Result.{Result}
+use Rattle.elementary.specs.declared.error.Refusal.{Refusal}
+use Rattle.relative_motion.specs.declared.approach.Approach.{Approach}
 use Rattle.root.specs.Hypot.{hypot}
 use Rattle.root.specs.Hypot as Hypot
 use Rattle.root.proofs.HypotSize.{in-hypot-domain, hypotenuse, hypot-small, hypot_sides}
@@ -32,14 +35,9 @@ use Rattle.math.specs.Convert.{to_degrees}
 use Rattle.math.specs.Sign.{abs}
 use Rattle.math.proofs.Sign.{abs-fits, abs-units, units_of-abs}
 use Rattle.elementary.specs.declared.error.Refusal.TheVariants as Why
-use Rattle.relative_motion.specs.declared.approach.CpaAnswer.{CpaAnswer}
-use Rattle.relative_motion.specs.declared.approach.CpaAnswer.TheVariants as CpaAnswer
-use Rattle.bow.specs.declared.BowAnswer.TheVariants as BowAnswer
 use Rattle.bow.specs.Bow.{parallel, tolerance, not_negative, determinant, crossing, bow_by, bow_answer}
 use Rattle.inverse.specs.Atan2.{atan2}
 use Rattle.inverse.proofs.Sizes.{atan2-small}
-use Rattle.arguments.specs.declared.Verdict.{Verdict}
-use Rattle.arguments.specs.declared.Verdict.TheVariants as Verdict
 use Rattle.motion.specs.declared.units.Distance.{Distance}
 use Rattle.motion.specs.declared.vessel.Vessel.{Vessel}
 use Rattle.motion.specs.declared.vessel.Contact.{Contact}
@@ -228,7 +226,7 @@ module _ (position relative : Components) (a : Sized position relative) where
     seconds_small : Small 59 0 (time_of position relative ⊗ seconds_per_hour)
     seconds_small = mul_small {p = 47} {q = 0} {r = 12} {t = 0} (lit≤ tt) (lit< tt) time_bound hour_small
 
-    pub time_fits : le (time_of position relative) Check.zero ≡ false → from_hours (time_of position relative) ≡ Time.Of (clock (nanos_in (time_of position relative ⊗ seconds_per_hour)))
+    pub time_fits : le (time_of position relative) Check.zero ≡ false → from_hours (time_of position relative) ≡ Ok (clock (nanos_in (time_of position relative ⊗ seconds_per_hour)))
     unfolding from_hours from_seconds
     time_fits later = rw (not_below, not_long) refl
       where
@@ -283,10 +281,10 @@ approach-finite range position relative r a = go (lt (relative_speed relative) s
     go false m false = let c = closest-small position relative a m in ((hypot-small {p = 98} {q = 0} (lit≤ tt) c.0 c.1).number, direction_finite (closest position relative) c.0.number c.1.number)
 
 module _ (own : Vessel) (contact : Contact) (target : Vessel) (ho : HeldVessel own) (hc : HeldContact contact) (ht : HeldVessel target) where
-  accepted : verdict (encounter_checks own contact target) Verdict.Accepted ≡ Verdict.Accepted → AllGood (encounter_checks own contact target)
+  accepted : verdict (encounter_checks own contact target) (Ok tt) ≡ (Ok tt) → AllGood (encounter_checks own contact target)
   accepted e = all_good (encounter_checks own contact target) e
 
-  pub cpa_way : verdict (encounter_checks own contact target) Verdict.Accepted ≡ Verdict.Accepted → CpaWay own contact target
+  pub cpa_way : verdict (encounter_checks own contact target) (Ok tt) ≡ (Ok tt) → CpaWay own contact target
   unfolding encounter_checks
   cpa_way e =
       let g = accepted e in
@@ -299,30 +297,30 @@ module _ (own : Vessel) (contact : Contact) (target : Vessel) (ho : HeldVessel o
 
   pub cpa_finite : FiniteCpa (cpa_answer own contact target)
   unfolding cpa_answer approach encounter_checks
-  cpa_finite = go (verdict (encounter_checks own contact target) Verdict.Accepted) refl
+  cpa_finite = go (verdict (encounter_checks own contact target) (Ok tt)) refl
     where
-      go : (v : Verdict) → verdict (encounter_checks own contact target) Verdict.Accepted ≡ v → FiniteCpa (cpa_by v (approach_from contact.range (offset contact) (relative_velocity own target)))
-      go Verdict.Accepted e = let g = accepted e in approach-finite contact.range (offset contact) (relative_velocity own target) (distance-small contact.range hc.range g.1.1.1.0).number (sized own contact target ho hc ht g.0 g.1.0 g.1.1.0 g.1.1.1.0 g.1.1.1.1.0 g.1.1.1.1.1.0)
-      go (Verdict.Refused why) e = tt
+      go : (v : Result (Unit {0}) Refusal) → verdict (encounter_checks own contact target) (Ok tt) ≡ v → FiniteCpa (cpa_by v (approach_from contact.range (offset contact) (relative_velocity own target)))
+      go (Ok tt) e = let g = accepted e in approach-finite contact.range (offset contact) (relative_velocity own target) (distance-small contact.range hc.range g.1.1.1.0).number (sized own contact target ho hc ht g.0 g.1.0 g.1.1.0 g.1.1.1.0 g.1.1.1.1.0 g.1.1.1.1.1.0)
+      go (Err why) e = tt
 
   pub passing_finite : FinitePass (passing_answer own contact target)
   unfolding passing_answer
   passing_finite = go (cpa_answer own contact target) cpa_finite
     where
-      go : (a : CpaAnswer) → FiniteCpa a → FinitePass (passing_of_answer a)
-      go (CpaAnswer.Of (Closing cpa)) f = f.0
-      go (CpaAnswer.Of (Opening range)) f = f
-      go (CpaAnswer.Of (Stationary range)) f = f
-      go (CpaAnswer.Refused why) f = tt
+      go : (a : Result Approach Refusal) → FiniteCpa a → FinitePass (passing_of_answer a)
+      go (Ok (Closing cpa)) f = f.0
+      go (Ok (Opening range)) f = f
+      go (Ok (Stationary range)) f = f
+      go (Err why) f = tt
 
 -- ---- the relative bearing
 pub bearing_finite : (own : Vessel) (contact : Contact) → HeldVessel own → HeldContact contact → FiniteBearing (bearing_answer own contact)
 unfolding bearing_answer
-bearing_finite own contact ho hc = go (verdict (vessel_checks own ++ contact_checks contact) Verdict.Accepted) refl
+bearing_finite own contact ho hc = go (verdict (vessel_checks own ++ contact_checks contact) (Ok tt)) refl
   where
-    go : (v : Verdict) → verdict (vessel_checks own ++ contact_checks contact) Verdict.Accepted ≡ v → FiniteBearing (bearing_by v (whole_fold (contact.bearing.0 ⊖ own.course.0)))
-    go Verdict.Accepted e = let g = all_good (vessel_checks own ++ contact_checks contact) e in whole_fold_range (contact.bearing.0 ⊖ own.course.0) (sub_small {p = 9} {q = 0} (lit≤ tt) (lit< tt) (direction_small contact.bearing hc.bearing g.1.1.0) (direction_small own.course ho.course g.0)).number
-    go (Verdict.Refused why) e = tt
+    go : (v : Result (Unit {0}) Refusal) → verdict (vessel_checks own ++ contact_checks contact) (Ok tt) ≡ v → FiniteBearing (bearing_by v (whole_fold (contact.bearing.0 ⊖ own.course.0)))
+    go (Ok tt) e = let g = all_good (vessel_checks own ++ contact_checks contact) e in whole_fold_range (contact.bearing.0 ⊖ own.course.0) (sub_small {p = 9} {q = 0} (lit≤ tt) (lit< tt) (direction_small contact.bearing hc.bearing g.1.1.0) (direction_small own.course ho.course g.0)).number
+    go (Err why) e = tt
 
 -- ---- the bow crossing
 cleared : (x : Float) → T (finite x) → T (finite (not_negative x))
@@ -349,18 +347,18 @@ module _ (range : Float) (position relative ahead : Components) (a : Sized posit
   unfolding crossing
   crossing-finite = go (lt (abs (determinant relative ahead)) parallel) refl (le ((neg position.north ⊗ neg ahead.east ⊕ position.east ⊗ neg ahead.north) ⊘ determinant relative ahead) Check.zero || lt ((relative.east ⊗ position.north ⊖ relative.north ⊗ position.east) ⊘ determinant relative ahead) (neg (range ⊗ tolerance)))
     where
-      go : (b : Bool) → lt (abs (determinant relative ahead)) parallel ≡ b → (c : Bool) → FiniteBow (cond b (BowAnswer.Refused Why.AlongOwnTrack) (cond c (BowAnswer.Refused Why.NotAhead) (BowAnswer.Of (record { 0 = not_negative ((relative.east ⊗ position.north ⊖ relative.north ⊗ position.east) ⊘ determinant relative ahead) }))))
+      go : (b : Bool) → lt (abs (determinant relative ahead)) parallel ≡ b → (c : Bool) → FiniteBow (cond b (Err Why.AlongOwnTrack) (cond c (Err Why.NotAhead) (Ok (record { 0 = not_negative ((relative.east ⊗ position.north ⊖ relative.north ⊗ position.east) ⊘ determinant relative ahead) }))))
       go true h c = tt
       go false h true = tt
       go false h false = cleared ((relative.east ⊗ position.north ⊖ relative.north ⊗ position.east) ⊘ determinant relative ahead) (div-small {p = 26} {q = 0} {r = 0} {t = 40} (lit≤ tt) (lit< tt) (sub_small {p = 25} {q = 0} (lit≤ tt) (lit< tt) (mul_small {p = 11} {q = 0} {r = 14} {t = 0} (lit≤ tt) (lit< tt) a.relative_east a.position_north) (mul_small {p = 11} {q = 0} {r = 14} {t = 0} (lit≤ tt) (lit< tt) a.relative_north a.position_east)) (determinant-least h)).number
 
 pub bow_finite : (own : Vessel) (contact : Contact) (target : Vessel) → HeldVessel own → HeldContact contact → HeldVessel target → FiniteBow (bow_answer own contact target)
 unfolding bow_answer encounter_checks
-bow_finite own contact target ho hc ht = go (verdict (encounter_checks own contact target) Verdict.Accepted) refl
+bow_finite own contact target ho hc ht = go (verdict (encounter_checks own contact target) (Ok tt)) refl
   where
-    go : (v : Verdict) → verdict (encounter_checks own contact target) Verdict.Accepted ≡ v → FiniteBow (bow_by v (crossing contact.range.0 (offset contact) (relative_velocity own target) (unit own.course.0)))
-    go Verdict.Accepted e =
+    go : (v : Result (Unit {0}) Refusal) → verdict (encounter_checks own contact target) (Ok tt) ≡ v → FiniteBow (bow_by v (crossing contact.range.0 (offset contact) (relative_velocity own target) (unit own.course.0)))
+    go (Ok tt) e =
         let g = all_good (encounter_checks own contact target) e in
         let u = unit-small own.course ho.course g.0 in
         crossing-finite contact.range.0 (offset contact) (relative_velocity own target) (unit own.course.0) (sized own contact target ho hc ht g.0 g.1.0 g.1.1.0 g.1.1.1.0 g.1.1.1.1.0 g.1.1.1.1.1.0) u.0 u.1
-    go (Verdict.Refused why) e = tt
+    go (Err why) e = tt

@@ -1,4 +1,5 @@
 -- On accepted arguments the figures that two plots give are finite: the interval, where it is above 0, is at least 2 ^ -42 hours.
+use Rattle.std.specs.Prelude.{Err, Ok}
 use mathlib.Core.Path.{◌≡◌, refl, sym, ◌∙◌, subst}
 use mathlib.Core.Bool.{Bool, true, false, not, cond, true≢false}
 use mathlib.Core.List.{◌++◌}
@@ -28,12 +29,11 @@ use Rattle.root.proofs.HypotSize.{hypot-small}
 use Rattle.inverse.specs.Atan2.{atan2}
 use Rattle.inverse.proofs.Sizes.{atan2-small}
 use Rattle.elementary.specs.declared.error.Refusal.TheVariants as Why
-use Rattle.arguments.specs.declared.Verdict.{Verdict}
-use Rattle.arguments.specs.declared.Verdict.TheVariants.{Accepted, Refused}
+use Rattle.std.specs.declared.result.Result.{Result}
+use Rattle.elementary.specs.declared.error.Refusal.{Refusal}
 use Rattle.motion.specs.declared.vessel.Vessel.{Vessel}
 use Rattle.motion.specs.declared.vessel.Contact.{Contact}
 use Rattle.motion.specs.declared.vessel.Components.{Components}
-use Rattle.plot.specs.declared.PlotAnswer.TheVariants as PlotAnswer
 use Rattle.arguments.specs.Check.{verdict, vessel_checks, contact_checks, is_direction, is_speed, is_distance}
 use Rattle.arguments.specs.Check as Check
 use Rattle.motion.specs.Vessel.{direction_of, velocity, from_velocity, offset, difference}
@@ -197,14 +197,14 @@ moved_small first second hf hs fb fr sb sr interval i =
 
 pub plot_finite : (own : Vessel) (first second : Contact) (elapsed : Duration) → HeldVessel own → HeldContact first → HeldContact second → FinitePlot (plot_answer own first second elapsed)
 unfolding plot_answer plot_verdict plot_checks solved
-plot_finite own first second elapsed ho hf hs = go (verdict (plot_checks own first second elapsed) Accepted) refl
+plot_finite own first second elapsed ho hf hs = go (verdict (plot_checks own first second elapsed) (Ok tt)) refl
   where
-    done : T (is_accepted elapsed) → AllGood (vessel_checks own ++ contact_checks first ++ contact_checks second) → (b : Bool) → le (hours_of elapsed) Check.zero ≡ b → FinitePlot (cond b (PlotAnswer.Refused Why.Time) (PlotAnswer.Of (solution own second (relative_motion first second (hours_of elapsed)))))
+    done : T (is_accepted elapsed) → AllGood (vessel_checks own ++ contact_checks first ++ contact_checks second) → (b : Bool) → le (hours_of elapsed) Check.zero ≡ b → FinitePlot (cond b (Err Why.Time) (Ok (solution own second (relative_motion first second (hours_of elapsed)))))
     done t g true e = tt
     done t g false e =
         let m = moved_small first second hf hs g.1.1.0 g.1.1.1.0 g.1.1.1.1.0 g.1.1.1.1.1.0 (hours_of elapsed) (hours_least elapsed t e) in
         solution-finite own second (relative_motion first second (hours_of elapsed)) ho hs g.0 g.1.0 g.1.1.1.1.0 m.0 m.1
 
-    go : (v : Verdict) → verdict (plot_checks own first second elapsed) Accepted ≡ v → FinitePlot (plot_by v (cond (le (hours_of elapsed) Check.zero) (PlotAnswer.Refused Why.Time) (PlotAnswer.Of (solution own second (relative_motion first second (hours_of elapsed))))))
-    go Accepted e = let g = all_good (plot_checks own first second elapsed) e in done g.1.1.1.1.1.1.0 (g.0, (g.1.0, (g.1.1.0, (g.1.1.1.0, (g.1.1.1.1.0, (g.1.1.1.1.1.0, tt)))))) (le (hours_of elapsed) Check.zero) refl
-    go (Refused why) e = tt
+    go : (v : Result (Unit {0}) Refusal) → verdict (plot_checks own first second elapsed) (Ok tt) ≡ v → FinitePlot (plot_by v (cond (le (hours_of elapsed) Check.zero) (Err Why.Time) (Ok (solution own second (relative_motion first second (hours_of elapsed))))))
+    go (Ok tt) e = let g = all_good (plot_checks own first second elapsed) e in done g.1.1.1.1.1.1.0 (g.0, (g.1.0, (g.1.1.0, (g.1.1.1.0, (g.1.1.1.1.0, (g.1.1.1.1.1.0, tt)))))) (le (hours_of elapsed) Check.zero) refl
+    go (Err why) e = tt

@@ -1,4 +1,5 @@
 -- Sizes on accepted arguments: from directions, speeds and distances to offsets and velocities.
+use Rattle.std.specs.Prelude.{Err, Ok}
 use mathlib.Core.Path.{◌≡◌, refl, sym, ap, subst}
 use mathlib.Core.Bool.{Bool, true, false, cond, true≢false}
 use mathlib.Core.List.{List, [], ◌∷◌}
@@ -23,8 +24,8 @@ use Rattle.angle.specs.Fold.{half_turn}
 use Rattle.circular.specs.Sine as Sine
 use Rattle.circular.proofs.Sizes.{sin-small, cos-small}
 use Rattle.elementary.specs.Range.{in_range}
-use Rattle.arguments.specs.declared.Verdict.{Verdict}
-use Rattle.arguments.specs.declared.Verdict.TheVariants.{Accepted, Refused}
+use Rattle.std.specs.declared.result.Result.{Result}
+use Rattle.elementary.specs.declared.error.Refusal.{Refusal}
 use Rattle.motion.specs.declared.units.Direction.{Direction}
 use Rattle.motion.specs.declared.units.Speed.{Speed}
 use Rattle.motion.specs.declared.units.Distance.{Distance}
@@ -36,16 +37,16 @@ use Rattle.motion.specs.Vessel.{unit, resolved, velocity, offset, difference, re
 use Rattle.motion_laws.specs.Sound.{HeldVessel, HeldContact, AllGood}
 
 -- ---- what acceptance says
-abbrev accepts : Verdict → Bool
-accepts Accepted = true
-accepts (Refused why) = false
+abbrev accepts : Result (Unit {0}) Refusal → Bool
+accepts (Ok tt) = true
+accepts (Err why) = false
 
-pub all_good : (cs : List Check) → verdict cs Accepted ≡ Accepted → AllGood cs
+pub all_good : (cs : List Check) → verdict cs (Ok tt) ≡ (Ok tt) → AllGood cs
 unfolding verdict
 all_good [] e = tt
 all_good (c ∷ cs) e = go c.good refl (λ k. all_good cs k) e
   where
-    go : (b : Bool) → c.good ≡ b → (verdict cs Accepted ≡ Accepted → AllGood cs) → cond b (verdict cs Accepted) (Refused c.why) ≡ Accepted → T c.good × AllGood cs
+    go : (b : Bool) → c.good ≡ b → (verdict cs (Ok tt) ≡ (Ok tt) → AllGood cs) → cond b (verdict cs (Ok tt)) (Err c.why) ≡ (Ok tt) → T c.good × AllGood cs
     go true h rest k = (holds h, rest k)
     go false h rest k = absurd (true≢false (sym (ap accepts k)))
 

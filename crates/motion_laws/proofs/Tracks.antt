@@ -1,9 +1,10 @@
 -- On accepted arguments the courses that `course_for_cpa` gives are directions: the relative tracks are within 668 degrees, and so within 16 radians.
+use Rattle.std.specs.Prelude.{Err, Ok, None, Some}
 use mathlib.Core.Path.{◌≡◌, refl, sym, ap, ◌∙◌, subst}
 use mathlib.Core.Bool.{Bool, true, false, ◌&&◌, ◌||◌, cond, true≢false}
 use mathlib.Core.Logic.{◌⊎◌, inl, inr}
 use mathlib.Core.List.{◌++◌}
-use Prim.Native.Nat.{ℕ, zero, ◌+◌, ◌*◌, ◌^◌, ◌≤◌, ◌<◌}
+use Prim.Native.Nat.{ℕ, ◌+◌, ◌*◌, ◌^◌, ◌≤◌, ◌<◌}
 use native.Mathlib.Nat.{add-le-add, le_trans, le_of_eq, le_of_lt, lt_of_le_of_lt, mul-le-mul_left, mul-le-mul_right, mul-one}
 use native.Mathlib.Omega.{arith}
 use lib.Dec.{T, ltb→lt, lit<, lit≤}
@@ -34,20 +35,19 @@ use Rattle.arguments.specs.Check as Check
 use Rattle.motion.specs.declared.vessel.Vessel.{Vessel}
 use Rattle.motion.specs.declared.vessel.Components.{Components}
 use Rattle.best_course.specs.declared.Best.{Best}
-use Rattle.best_course.specs.declared.Best.TheVariants as Best
 use Rattle.best_course.specs.declared.Choice.{Choice}
 use Rattle.motion.specs.Vessel.{unit, velocity}
-use Rattle.arguments.specs.declared.Verdict.{Verdict}
-use Rattle.arguments.specs.declared.Verdict.TheVariants.{Accepted, Refused}
+use Rattle.std.specs.declared.result.Result.{Result}
+use Rattle.elementary.specs.declared.error.Refusal.{Refusal}
 use Rattle.motion.specs.declared.units.Distance.{Distance}
-use Rattle.course.specs.declared.CourseAnswer.{CourseAnswer}
-use Rattle.course.specs.declared.CourseAnswer.TheVariants as CourseAnswer
 use Rattle.elementary.specs.declared.error.Refusal.TheVariants as Why
 use Rattle.angle.proofs.Range.{whole_fold_range}
 use Rattle.root.specs.Sqrt.{sqrt}
 use Rattle.root.proofs.SqrtSize.{sqrt-small}
 use Rattle.circular.proofs.Sizes.{sin-small, cos-small}
 use Rattle.course.specs.Course.{one, clamped, grazing, larger, offered, at_speed, along, choice_of, alteration_to, is_nothing, avoidance_of, course_for, course_by, course_answer}
+use Rattle.std.specs.declared.option.Option.{Option}
+use Rattle.best_course.specs.Offers.{best as offer}
 use Rattle.course.specs.Course.{smaller as smaller-of}
 use Rattle.motion_laws.specs.Sound.{HeldVessel, HeldContact, AllGood, FiniteAlteration, FiniteCourse}
 use Rattle.motion_laws.proofs.Sizes.{all_good, constant, constant_small, degrees_small, direction_small, distance-small, speed_small, half_turn-small, in-sine-domain, velocity-small}
@@ -221,24 +221,24 @@ module _ (contact : Contact) (wanted : Float) (hc : HeldContact contact) (tw : T
       )
 
 -- ---- every course that is kept is finite
-abbrev FiniteBest : Best → Type 0
-FiniteBest Best.Nothing = Unit {0}
-FiniteBest (Best.By a c) = T (finite c)
+abbrev FiniteBest : Option Best → Type 0
+FiniteBest None = Unit {0}
+FiniteBest (Some b) = T (finite b.course)
 
 abbrev FiniteChoice : Choice → Type 0
 FiniteChoice c = FiniteBest c.starboard × FiniteBest c.port
 
-better : (b : Bool) (p q : Best) → FiniteBest p → FiniteBest q → FiniteBest (cond b p q)
+better : (b : Bool) (p q : Option Best) → FiniteBest p → FiniteBest q → FiniteBest (cond b p q)
 better true p q f g = f
 better false p q f g = g
 
-smaller-finite : (best : Best) (a c : Float) → FiniteBest best → T (finite c) → FiniteBest (smaller-of best a c)
-smaller-finite Best.Nothing a c f h = h
-smaller-finite (Best.By b d) a c f h = better (lt a b) (Best.By a c) (Best.By b d) h f
+smaller-finite : (best : Option Best) (a c : Float) → FiniteBest best → T (finite c) → FiniteBest (smaller-of best a c)
+smaller-finite None a c f h = h
+smaller-finite (Some b) a c f h = better (lt a b.alteration) (Some (offer a c)) (Some b) h f
 
-larger-finite : (best : Best) (a c : Float) → FiniteBest best → T (finite c) → FiniteBest (larger best a c)
-larger-finite Best.Nothing a c f h = h
-larger-finite (Best.By b d) a c f h = better (lt b a) (Best.By a c) (Best.By b d) h f
+larger-finite : (best : Option Best) (a c : Float) → FiniteBest best → T (finite c) → FiniteBest (larger best a c)
+larger-finite None a c f h = h
+larger-finite (Some b) a c f h = better (lt b.alteration a) (Some (offer a c)) (Some b) h f
 
 offered-finite : (own course : Float) (choice : Choice) → T (finite course) → FiniteChoice choice → FiniteChoice (offered own course choice)
 unfolding offered
@@ -298,15 +298,15 @@ module _ (own : Vessel) (target : Components) (speed : Small 10 0 own.speed.0) (
   along-finite degrees choice td fd most f = let u = track_small degrees td fd most in by_discriminant (unit degrees) u.0 u.1 choice f (lt (discriminant (unit degrees) u.0 u.1) Check.zero) refl
 
 -- ---- the theorem
-alteration_finite : (b : Best) → FiniteBest b → FiniteAlteration (alteration_to b)
-alteration_finite Best.Nothing f = tt
-alteration_finite (Best.By a c) f = whole_fold_range c f
+alteration_finite : (b : Option Best) → FiniteBest b → FiniteAlteration (alteration_to b)
+alteration_finite None f = tt
+alteration_finite (Some b) f = whole_fold_range b.course f
 
 avoidance_finite : (choice : Choice) → FiniteChoice choice → FiniteCourse (avoidance_of choice)
 unfolding avoidance_of
 avoidance_finite choice f = go (is_nothing (alteration_to choice.starboard) && is_nothing (alteration_to choice.port))
   where
-    go : (b : Bool) → FiniteCourse (cond b (CourseAnswer.Refused Why.NoOtherCourse) (CourseAnswer.Of (record { starboard = alteration_to choice.starboard; port = alteration_to choice.port })))
+    go : (b : Bool) → FiniteCourse (cond b (Err Why.NoOtherCourse) (Ok (record { starboard = alteration_to choice.starboard; port = alteration_to choice.port })))
     go true = tt
     go false = (alteration_finite choice.starboard f.0, alteration_finite choice.port f.1)
 
@@ -315,7 +315,7 @@ module _ (own : Vessel) (contact : Contact) (target : Vessel) (desired : Distanc
   unfolding encounter_checks course_for choice_of
   for_finite g = go (le contact.range.0 desired.0) refl (le own.speed.0 Check.zero)
     where
-      kept : le contact.range.0 desired.0 ≡ false → FiniteChoice (along own (velocity target) (contact.bearing.0 ⊕ half_turn ⊕ grazing desired.0 contact.range.0) (along own (velocity target) (contact.bearing.0 ⊕ half_turn ⊖ grazing desired.0 contact.range.0) (record { starboard = Best.Nothing; port = Best.Nothing })))
+      kept : le contact.range.0 desired.0 ≡ false → FiniteChoice (along own (velocity target) (contact.bearing.0 ⊕ half_turn ⊕ grazing desired.0 contact.range.0) (along own (velocity target) (contact.bearing.0 ⊕ half_turn ⊖ grazing desired.0 contact.range.0) (record { starboard = None; port = None })))
       kept e =
           let cb = g.1.1.0 in
           let cr = g.1.1.1.0 in
@@ -328,18 +328,18 @@ module _ (own : Vessel) (contact : Contact) (target : Vessel) (desired : Distanc
           let minus = sub_small {p = 10} {q = 0} (lit≤ tt) (lit< tt) a b in
           let plus = add_small {p = 10} {q = 0} (lit≤ tt) (lit< tt) a b in
           let first = contact.bearing.0 ⊕ half_turn ⊖ grazing desired.0 contact.range.0 in
-          along-finite own (velocity target) o v.0 v.1 (contact.bearing.0 ⊕ half_turn ⊕ grazing desired.0 contact.range.0) (along own (velocity target) first (record { starboard = Best.Nothing; port = Best.Nothing })) plus.held plus.number t.1
-          (along-finite own (velocity target) o v.0 v.1 first (record { starboard = Best.Nothing; port = Best.Nothing }) minus.held minus.number t.0 (tt, tt))
+          along-finite own (velocity target) o v.0 v.1 (contact.bearing.0 ⊕ half_turn ⊕ grazing desired.0 contact.range.0) (along own (velocity target) first (record { starboard = None; port = None })) plus.held plus.number t.1
+          (along-finite own (velocity target) o v.0 v.1 first (record { starboard = None; port = None }) minus.held minus.number t.0 (tt, tt))
 
-      go : (b : Bool) → le contact.range.0 desired.0 ≡ b → (c : Bool) → FiniteCourse (cond b (CourseAnswer.Refused Why.InsideDesired) (cond c (CourseAnswer.Refused Why.NoOwnSpeed) (avoidance_of (along own (velocity target) (contact.bearing.0 ⊕ half_turn ⊕ grazing desired.0 contact.range.0) (along own (velocity target) (contact.bearing.0 ⊕ half_turn ⊖ grazing desired.0 contact.range.0) (record { starboard = Best.Nothing; port = Best.Nothing }))))))
+      go : (b : Bool) → le contact.range.0 desired.0 ≡ b → (c : Bool) → FiniteCourse (cond b (Err Why.InsideDesired) (cond c (Err Why.NoOwnSpeed) (avoidance_of (along own (velocity target) (contact.bearing.0 ⊕ half_turn ⊕ grazing desired.0 contact.range.0) (along own (velocity target) (contact.bearing.0 ⊕ half_turn ⊖ grazing desired.0 contact.range.0) (record { starboard = None; port = None }))))))
       go true e c = tt
       go false e true = tt
-      go false e false = avoidance_finite (along own (velocity target) (contact.bearing.0 ⊕ half_turn ⊕ grazing desired.0 contact.range.0) (along own (velocity target) (contact.bearing.0 ⊕ half_turn ⊖ grazing desired.0 contact.range.0) (record { starboard = Best.Nothing; port = Best.Nothing }))) (kept e)
+      go false e false = avoidance_finite (along own (velocity target) (contact.bearing.0 ⊕ half_turn ⊕ grazing desired.0 contact.range.0) (along own (velocity target) (contact.bearing.0 ⊕ half_turn ⊖ grazing desired.0 contact.range.0) (record { starboard = None; port = None }))) (kept e)
 
   pub course-finite : FiniteCourse (course_answer own contact target desired)
   unfolding course_answer
-  course-finite = go (verdict (encounter_checks own contact target ++ distance_checks desired) Accepted) refl
+  course-finite = go (verdict (encounter_checks own contact target ++ distance_checks desired) (Ok tt)) refl
     where
-      go : (v : Verdict) → verdict (encounter_checks own contact target ++ distance_checks desired) Accepted ≡ v → FiniteCourse (course_by v (course_for own contact target desired.0))
-      go Accepted e = for_finite (all_good (encounter_checks own contact target ++ distance_checks desired) e)
-      go (Refused why) e = tt
+      go : (v : Result (Unit {0}) Refusal) → verdict (encounter_checks own contact target ++ distance_checks desired) (Ok tt) ≡ v → FiniteCourse (course_by v (course_for own contact target desired.0))
+      go (Ok tt) e = for_finite (all_good (encounter_checks own contact target ++ distance_checks desired) e)
+      go (Err why) e = tt

@@ -1,5 +1,5 @@
 -- What holds of the figures in any answer: they are finite, whatever the arguments were. And of the way to them, on accepted arguments: each elementary function is called inside its domain, and a time worked out is not cut.
-use Rattle.std.specs.Prelude.{◌≡◌, false, ◌&&◌, List, [], ◌∷◌, T}
+use Rattle.std.specs.Prelude.{◌≡◌, false, ◌&&◌, List, [], ◌∷◌, T, None, Some, Err, Ok}
 use Rattle.std.specs.Float.{binary64}
 use Rattle.std.specs.Float.Ieee.{fits, lt, le}
 use Rattle.std.specs.Float.Ieee.Scale.{finite}
@@ -7,30 +7,21 @@ use Rattle.laws.specs.Ops.{◌⊗◌}
 use Rattle.math.specs.Convert.{to_radians}
 use Rattle.angle.specs.Fold.{IsDirection, IsDifference}
 use Rattle.time.specs.Clock.{seconds_per_hour, clock, nanos_in, from_hours}
-use Rattle.time.specs.declared.TimeAnswer.TheVariants as Time
+use Rattle.std.specs.declared.option.Option.{Option}
+use Rattle.std.specs.declared.result.Result.{Result}
+use Rattle.course.specs.declared.Avoidance.{Avoidance}
+use Rattle.elementary.specs.declared.error.Refusal.{Refusal}
+use Rattle.motion.specs.declared.units.Direction.{Direction}
+use Rattle.motion.specs.declared.units.Distance.{Distance}
+use Rattle.motion.specs.declared.units.RelativeBearing.{RelativeBearing}
+use Rattle.relative_motion.specs.declared.approach.Pass.{Pass}
 use Rattle.root.specs.Hypot as Hypot
 use Rattle.circular.specs.Sine as Sine
 use Rattle.motion.specs.declared.vessel.Vessel.{Vessel}
 use Rattle.motion.specs.declared.vessel.Contact.{Contact}
 use Rattle.motion.specs.declared.vessel.Components.{Components}
 use Rattle.relative_motion.specs.declared.approach.Approach.{Approach}
-use Rattle.relative_motion.specs.declared.approach.Approach.TheVariants as Approach
-use Rattle.relative_motion.specs.declared.approach.CpaAnswer.{CpaAnswer}
-use Rattle.relative_motion.specs.declared.approach.CpaAnswer.TheVariants as CpaAnswer
-use Rattle.relative_motion.specs.declared.approach.Pass.TheVariants as Pass
-use Rattle.relative_motion.specs.declared.approach.PassAnswer.{PassAnswer}
-use Rattle.relative_motion.specs.declared.approach.PassAnswer.TheVariants as PassAnswer
-use Rattle.relative_motion.specs.declared.approach.BearingAnswer.{BearingAnswer}
-use Rattle.relative_motion.specs.declared.approach.BearingAnswer.TheVariants as BearingAnswer
-use Rattle.bow.specs.declared.BowAnswer.{BowAnswer}
-use Rattle.bow.specs.declared.BowAnswer.TheVariants as BowAnswer
 use Rattle.plot.specs.declared.TargetSolution.{TargetSolution}
-use Rattle.plot.specs.declared.PlotAnswer.{PlotAnswer}
-use Rattle.plot.specs.declared.PlotAnswer.TheVariants as PlotAnswer
-use Rattle.course.specs.declared.Alteration.{Alteration}
-use Rattle.course.specs.declared.Alteration.TheVariants as Alteration
-use Rattle.course.specs.declared.CourseAnswer.{CourseAnswer}
-use Rattle.course.specs.declared.CourseAnswer.TheVariants as CourseAnswer
 use Rattle.arguments.specs.Check.{zero, Check}
 use Rattle.motion.specs.Vessel.{offset, relative_velocity}
 use Rattle.relative_motion.specs.Approach.{stationary_knots, relative_speed, time_of, closest}
@@ -55,23 +46,23 @@ FiniteApproach (Approach.Closing cpa) = T (finite cpa.distance.0) × IsDirection
 FiniteApproach (Approach.Opening range) = T (finite range.0)
 FiniteApproach (Approach.Stationary range) = T (finite range.0)
 
-abbrev pub FiniteCpa : CpaAnswer → Type 0
-FiniteCpa (CpaAnswer.Of a) = FiniteApproach a
-FiniteCpa (CpaAnswer.Refused why) = Unit {0}
+abbrev pub FiniteCpa : Result Approach Refusal → Type 0
+FiniteCpa (Ok a) = FiniteApproach a
+FiniteCpa (Err why) = Unit {0}
 
-abbrev pub FinitePass : PassAnswer → Type 0
-FinitePass (PassAnswer.Of (Pass.Closing d)) = T (finite d.0)
-FinitePass (PassAnswer.Of (Pass.Opening d)) = T (finite d.0)
-FinitePass (PassAnswer.Of (Pass.Stationary d)) = T (finite d.0)
-FinitePass (PassAnswer.Refused why) = Unit {0}
+abbrev pub FinitePass : Result Pass Refusal → Type 0
+FinitePass (Ok (Pass.Closing d)) = T (finite d.0)
+FinitePass (Ok (Pass.Opening d)) = T (finite d.0)
+FinitePass (Ok (Pass.Stationary d)) = T (finite d.0)
+FinitePass (Err why) = Unit {0}
 
-abbrev pub FiniteBearing : BearingAnswer → Type 0
-FiniteBearing (BearingAnswer.Of b) = IsDirection b.0
-FiniteBearing (BearingAnswer.Refused why) = Unit {0}
+abbrev pub FiniteBearing : Result RelativeBearing Refusal → Type 0
+FiniteBearing (Ok b) = IsDirection b.0
+FiniteBearing (Err why) = Unit {0}
 
-abbrev pub FiniteBow : BowAnswer → Type 0
-FiniteBow (BowAnswer.Of d) = T (finite d.0)
-FiniteBow (BowAnswer.Refused why) = Unit {0}
+abbrev pub FiniteBow : Result Distance Refusal → Type 0
+FiniteBow (Ok d) = T (finite d.0)
+FiniteBow (Err why) = Unit {0}
 
 pub record FiniteSolution (s : TargetSolution) : Type 0 where
   pub course : IsDirection s.vessel.course.0
@@ -80,17 +71,17 @@ pub record FiniteSolution (s : TargetSolution) : Type 0 where
   pub relative_speed : T (finite s.relative_speed.0)
   pub aspect : IsDifference s.aspect.0
 
-abbrev pub FinitePlot : PlotAnswer → Type 0
-FinitePlot (PlotAnswer.Of s) = FiniteSolution s
-FinitePlot (PlotAnswer.Refused why) = Unit {0}
+abbrev pub FinitePlot : Result TargetSolution Refusal → Type 0
+FinitePlot (Ok s) = FiniteSolution s
+FinitePlot (Err why) = Unit {0}
 
-abbrev pub FiniteAlteration : Alteration → Type 0
-FiniteAlteration Alteration.Nothing = Unit {0}
-FiniteAlteration (Alteration.To d) = IsDirection d.0
+abbrev pub FiniteAlteration : Option Direction → Type 0
+FiniteAlteration None = Unit {0}
+FiniteAlteration (Some d) = IsDirection d.0
 
-abbrev pub FiniteCourse : CourseAnswer → Type 0
-FiniteCourse (CourseAnswer.Of a) = FiniteAlteration a.starboard × FiniteAlteration a.port
-FiniteCourse (CourseAnswer.Refused why) = Unit {0}
+abbrev pub FiniteCourse : Result Avoidance Refusal → Type 0
+FiniteCourse (Ok a) = FiniteAlteration a.starboard × FiniteAlteration a.port
+FiniteCourse (Err why) = Unit {0}
 
 -- ---- the way to a closest point of approach, from a position and a relative velocity
 pub record Way (position relative : Components) : Type 0 where
@@ -99,7 +90,7 @@ pub record Way (position relative : Components) : Type 0 where
   pub time_finite : lt (relative_speed relative) stationary_knots ≡ false → T (finite (time_of position relative))
   pub distance_domain : lt (relative_speed relative) stationary_knots ≡ false → T (Hypot.in_domain (closest position relative).north && Hypot.in_domain (closest position relative).east)
   pub bearing_domain : lt (relative_speed relative) stationary_knots ≡ false → T (finite (closest position relative).north) × T (finite (closest position relative).east)
-  pub time_fits : lt (relative_speed relative) stationary_knots ≡ false → le (time_of position relative) zero ≡ false → from_hours (time_of position relative) ≡ Time.Of (clock (nanos_in (time_of position relative ⊗ seconds_per_hour)))
+  pub time_fits : lt (relative_speed relative) stationary_knots ≡ false → le (time_of position relative) zero ≡ false → from_hours (time_of position relative) ≡ Ok (clock (nanos_in (time_of position relative ⊗ seconds_per_hour)))
 
 pub record CpaWay (own : Vessel) (contact : Contact) (target : Vessel) : Type 0 where
   pub own_domain : T (Sine.in_domain (to_radians own.course.0))

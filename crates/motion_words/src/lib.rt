@@ -5,9 +5,9 @@
 ghost use Rattle.std.specs.Prelude.{◌≡◌};
 ghost use Rattle.motion_words.specs.Words as Spec;
 
-use bow::BowAnswer;
-use motion::units::Distance;
-use relative_motion::approach::{Approach, BearingAnswer, Cpa, CpaAnswer, Pass, PassAnswer};
+use elementary::error::Refusal;
+use motion::units::{Distance, RelativeBearing};
+use relative_motion::approach::{Approach, Cpa, Pass};
 use words::Words;
 
 // ---- the approach: its kind (0 closing, 1 opening, 2 stationary), distance, and where it closes bearing and time
@@ -49,12 +49,12 @@ fn approach_words(a: Approach) -> Words
 }
 
 // The words of a closest approach.
-pub fn cpa_words(answer: CpaAnswer) -> Words
+pub fn cpa_words(answer: Result<Approach, Refusal>) -> Words
     ensures { result ≡ Spec.cpa_words answer }
 {
     match answer {
-        CpaAnswer::Of(a) => approach_words(a),
-        CpaAnswer::Refused(why) => words::refused(why),
+        Ok(a) => approach_words(a),
+        Err(why) => words::refused(why),
     }
 }
 
@@ -69,12 +69,12 @@ fn pass_words(p: Pass) -> Words
 }
 
 // The words of a passing: kind and distance.
-pub fn passing_words(answer: PassAnswer) -> Words
+pub fn passing_words(answer: Result<Pass, Refusal>) -> Words
     ensures { result ≡ Spec.passing_words answer }
 {
     match answer {
-        PassAnswer::Of(p) => pass_words(p),
-        PassAnswer::Refused(why) => words::refused(why),
+        Ok(p) => pass_words(p),
+        Err(why) => words::refused(why),
     }
 }
 
@@ -93,21 +93,21 @@ fn value(x: f64) -> Words
 }
 
 // The word of a bearing.
-pub fn bearing_words(answer: BearingAnswer) -> Words
+pub fn bearing_words(answer: Result<RelativeBearing, Refusal>) -> Words
     ensures { result ≡ Spec.bearing_words answer }
 {
     match answer {
-        BearingAnswer::Of(b) => value(b.0),
-        BearingAnswer::Refused(why) => words::refused(why),
+        Ok(b) => value(b.0),
+        Err(why) => words::refused(why),
     }
 }
 
 // The word of a bow crossing's range.
-pub fn bow_words(answer: BowAnswer) -> Words
+pub fn bow_words(answer: Result<Distance, Refusal>) -> Words
     ensures { result ≡ Spec.bow_words answer }
 {
     match answer {
-        BowAnswer::Of(d) => value(d.0),
-        BowAnswer::Refused(why) => words::refused(why),
+        Ok(d) => value(d.0),
+        Err(why) => words::refused(why),
     }
 }

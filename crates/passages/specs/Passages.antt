@@ -1,31 +1,31 @@
 -- What one contact does to a course (avoidance.rs, `clears`; 01, 'Trial list': 'a contact's passing distance is its CPA on that course if closing there, else its present range').
-use Rattle.std.specs.Prelude.{cond, Float}
+use Rattle.std.specs.Prelude.{cond, Float, None, Some, Err, Ok}
 use Rattle.std.specs.Float.Ieee.{lt, le}
 use Rattle.arguments.specs.Check.{zero}
 use Rattle.motion.specs.declared.vessel.Vessel.{Vessel}
 use Rattle.motion.specs.declared.vessel.Components.{Components}
 use Rattle.motion.specs.Vessel.{velocity, offset, difference}
 use Rattle.relative_motion.specs.declared.approach.Pass.{Pass}
-use Rattle.relative_motion.specs.declared.approach.Pass.TheVariants as Pass
-use Rattle.relative_motion.specs.declared.approach.CpaAnswer.{CpaAnswer}
-use Rattle.relative_motion.specs.declared.approach.CpaAnswer.TheVariants as CpaAnswer
+use Rattle.std.specs.declared.option.Option.{Option}
+use Rattle.std.specs.declared.result.Result.{Result}
+use Rattle.elementary.specs.declared.error.Refusal.{Refusal}
+use Rattle.motion.specs.declared.units.Distance.{Distance}
+use Rattle.relative_motion.specs.declared.approach.Approach.{Approach}
 use Rattle.relative_motion.specs.Approach.{closing_rate, approach_from, passing_in, cpa_answer}
 use Rattle.passages.specs.declared.Target.{Target}
 use Rattle.passages.specs.declared.Moving.{Moving}
-use Rattle.passages.specs.declared.Passage.{Passage}
-use Rattle.passages.specs.declared.Passage.TheVariants.{Blocked, At}
 
 -- a closing contact blocks below the floor; any other passes at its range
-abbrev pub passed : Float → Pass → Passage
-passed floor (Pass.Closing d) = cond (lt d.0 floor) Blocked (At d)
-passed floor (Pass.Opening range) = At range
-passed floor (Pass.Stationary range) = At range
+abbrev pub passed : Float → Pass → Option Distance
+passed floor (Pass.Closing d) = cond (lt d.0 floor) None (Some d)
+passed floor (Pass.Opening range) = Some range
+passed floor (Pass.Stationary range) = Some range
 
-abbrev pub passed_by : Float → CpaAnswer → Passage
-passed_by floor (CpaAnswer.Of a) = passed floor (passing_in a)
-passed_by floor (CpaAnswer.Refused why) = Blocked
+abbrev pub passed_by : Float → Result Approach Refusal → Option Distance
+passed_by floor (Ok a) = passed floor (passing_in a)
+passed_by floor (Err why) = None
 
-unfoldable pub passage : Vessel → Float → Target → Passage
+unfoldable pub passage : Vessel → Float → Target → Option Distance
 passage own floor t = passed_by floor (cpa_answer own t.contact t.vessel)
 
 -- ---- what is computed: from offset and velocity, and by the range where the rate is not closing
@@ -33,7 +33,7 @@ passage own floor t = passed_by floor (cpa_answer own t.contact t.vessel)
 unfoldable pub moving : Target → Moving
 moving t = record { range = t.contact.range; offset = offset t.contact; velocity = velocity t.vessel }
 
-unfoldable pub passage_at : Components → Float → Moving → Passage
+unfoldable pub passage_at : Components → Float → Moving → Option Distance
 passage_at own floor m =
     let relative = difference m.velocity own in
-    cond (le zero (closing_rate m.offset relative)) (At m.range) (passed floor (passing_in (approach_from m.range m.offset relative)))
+    cond (le zero (closing_rate m.offset relative)) (Some m.range) (passed floor (passing_in (approach_from m.range m.offset relative)))

@@ -27,55 +27,42 @@ pub struct Moving {
     pub velocity: Components,
 }
 
-// What one contact does to a course: it closes under the distance that is wanted, or passes at a distance.
-#[derive(Clone, Copy)]
-pub enum Passage {
-    Blocked,
-    At(Distance),
-}
-
 // A target's parts, worked out.
 pub fn moving_of(target: Target) -> Moving
     ensures { result ≡ Spec.moving target }
 {
-    let contact = target.contact;
-    let vessel = target.vessel;
-    let range = contact.range;
-    let offset = contact.offset();
-    let velocity = vessel.velocity();
+    let offset = target.contact.offset();
+    let velocity = target.vessel.velocity();
     Moving {
-        range: range,
-        offset: offset,
-        velocity: velocity,
+        range: target.contact.range,
+        offset,
+        velocity,
     }
 }
 
-fn passed(pass: Pass, floor: f64) -> Passage
+fn passed(pass: Pass, floor: f64) -> Option<Distance>
     ensures { result ≡ Spec.passed floor pass }
 {
     match pass {
         Pass::Closing(d) => {
             if d.0 < floor {
-                return Passage::Blocked;
+                return None;
             }
-            Passage::At(d)
+            Some(d)
         }
-        Pass::Opening(range) => Passage::At(range),
-        Pass::Stationary(range) => Passage::At(range),
+        Pass::Opening(range) => Some(range),
+        Pass::Stationary(range) => Some(range),
     }
 }
 
 // A contact that does not close passes at its range, and costs no root and no division.
-pub fn passage_of(own: Components, m: Moving, floor: f64) -> Passage
+pub fn passage_of(own: Components, m: Moving, floor: f64) -> Option<Distance>
     ensures { result ≡ Spec.passage_at own floor m }
 {
-    let range = m.range;
-    let offset = m.offset;
-    let velocity = m.velocity;
-    let relative = vessel::difference(velocity, own);
-    let rate = offset.north * relative.north + offset.east * relative.east;
+    let relative = vessel::difference(m.velocity, own);
+    let rate = m.offset.north * relative.north + m.offset.east * relative.east;
     if rate >= 0.0 {
-        return Passage::At(range);
+        return Some(m.range);
     }
-    passed(approach::passing_from(range, offset, relative), floor)
+    passed(approach::passing_from(m.range, m.offset, relative), floor)
 }

@@ -1,4 +1,5 @@
 -- What the code of the picture owes: the targets of a count beyond the room, one target more, and the loops.
+use Rattle.std.specs.Prelude.{None}
 use mathlib.Core.Path.{◌≡◌, refl, sym, ap, ◌∙◌, subst}
 use mathlib.Core.Bool.{Bool, true, false, cond}
 use mathlib.Core.List.{List, [], ◌∷◌, ◌++◌, append_assoc, append-nil}
@@ -15,8 +16,7 @@ use Rattle.room.specs.Room.{max_contacts}
 use Rattle.room.proofs.Counts.{take-held}
 use Rattle.risk.specs.declared.CollisionRisk.{CollisionRisk}
 use Rattle.targets.specs.declared.TargetAssessment.{TargetAssessment}
-use Rattle.targets.specs.declared.PerhapsTarget.{PerhapsTarget}
-use Rattle.targets.specs.declared.PerhapsTarget.TheVariants.{Nothing}
+use Rattle.std.specs.declared.option.Option.{Option}
 use Rattle.picture.specs.Picture.{pushed, is_at_least, pushed_if, at_least}
 
 -- ---- the targets: a count beyond the room is cut at it
@@ -42,8 +42,8 @@ module _ (list : List TargetAssessment) (n count : ℕ) (is : n ≡ min count ma
       never p q = omega arith
 
 -- ---- a loop that folds
-pub folded : (f : PerhapsTarget → TargetAssessment → PerhapsTarget) (list : List TargetAssessment) (n count : ℕ) (r : PerhapsTarget) → n ≡ min count max_contacts → length list ≡ max_contacts → r ≡ fold f Nothing (take n list) → r ≡ fold f Nothing (take count list)
-folded f list n count r is full e = e ∙ ap (fold f Nothing) (same_targets list n count is full)
+pub folded : (f : Option TargetAssessment → TargetAssessment → Option TargetAssessment) (list : List TargetAssessment) (n count : ℕ) (r : Option TargetAssessment) → n ≡ min count max_contacts → length list ≡ max_contacts → r ≡ fold f None (take n list) → r ≡ fold f None (take count list)
+folded f list n count r is full e = e ∙ ap (fold f None) (same_targets list n count is full)
 
 -- ---- the loop that keeps those of at least a risk
 module _ (least : CollisionRisk) (list : List TargetAssessment) (n : ℕ) where

@@ -1,12 +1,11 @@
 -- The collision picture (assessment.rs, `CollisionPicture`; 01, assessment.rs: '`most_dangerous`: highest risk, then least time, then the last listed; none on an empty list').
-use Rattle.std.specs.Prelude.{cond, List, [], ◌∷◌, ◌++◌, ℕ, ltb, length, take}
+use Rattle.std.specs.Prelude.{cond, List, [], ◌∷◌, ◌++◌, ℕ, ltb, length, take, None}
 use Rattle.laws.specs.Fold.{fold}
 use Rattle.room.specs.Room.{max_contacts}
 use Rattle.risk.specs.declared.CollisionRisk.{CollisionRisk}
 use Rattle.targets.specs.declared.TargetAssessment.{TargetAssessment}
 use Rattle.picture.specs.declared.CollisionPicture.{CollisionPicture}
-use Rattle.targets.specs.declared.PerhapsTarget.{PerhapsTarget}
-use Rattle.targets.specs.declared.PerhapsTarget.TheVariants.{Nothing}
+use Rattle.std.specs.declared.option.Option.{Option}
 pub use Rattle.targets.specs.Picture.{or_this, time_of, keep}
 unfoldable pub use Rattle.targets.specs.Picture.{outranks, is_at_least}
 
@@ -17,12 +16,12 @@ unfoldable pub pushed : List TargetAssessment → TargetAssessment → List Targ
 pushed ts e = cond (ltb (length ts) max_contacts) (ts ++ (e ∷ [])) ts
 
 -- ---- the first under a number
-unfoldable pub found : ℕ → List TargetAssessment → PerhapsTarget
-found target ts = fold (or_this target) Nothing ts
+unfoldable pub found : ℕ → List TargetAssessment → Option TargetAssessment
+found target ts = fold (or_this target) None ts
 
 -- ---- the most dangerous
-unfoldable pub most_dangerous : List TargetAssessment → PerhapsTarget
-most_dangerous ts = fold keep Nothing ts
+unfoldable pub most_dangerous : List TargetAssessment → Option TargetAssessment
+most_dangerous ts = fold keep None ts
 
 -- ---- those of at least a risk
 abbrev pub pushed_if : CollisionRisk → List TargetAssessment → TargetAssessment → List TargetAssessment

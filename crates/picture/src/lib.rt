@@ -6,7 +6,7 @@ ghost use Rattle.picture.specs.Picture as Spec;
 
 use risk::CollisionRisk;
 use room::MAX_CONTACTS;
-use targets::{PerhapsTarget, TargetAssessment, is_at_least, keep, or_this};
+use targets::{TargetAssessment, is_at_least, keep, or_this};
 
 // The first `count` of the list, in the order in which they were listed.
 #[derive(Clone, Copy)]
@@ -54,11 +54,11 @@ impl CollisionPicture {
     }
 
     // The first that is listed under a number.
-    pub fn target(self, target: u32) -> PerhapsTarget
+    pub fn target(self, target: u32) -> Option<TargetAssessment>
         ensures { result ≡ Spec.found target (Spec.targets self) }
     {
         let count = room::held(self.count);
-        let mut found = PerhapsTarget::Nothing;
+        let mut found = None;
         let mut i: usize = 0;
         while i < count {
             let e = self.list[i];
@@ -69,11 +69,11 @@ impl CollisionPicture {
     }
 
     // The highest risk, then the least time to go, then the last listed; none in an empty picture.
-    pub fn most_dangerous(self) -> PerhapsTarget
+    pub fn most_dangerous(self) -> Option<TargetAssessment>
         ensures { result ≡ Spec.most_dangerous (Spec.targets self) }
     {
         let count = room::held(self.count);
-        let mut best = PerhapsTarget::Nothing;
+        let mut best = None;
         let mut i: usize = 0;
         while i < count {
             let e = self.list[i];

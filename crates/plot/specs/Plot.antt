@@ -1,5 +1,5 @@
 -- A target's course and speed from two plots (relative_motion.rs, `target_from_plot`), operation by operation.
-use Rattle.std.specs.Prelude.{cond, List, [], ◌∷◌, ◌++◌, ℕ, Float}
+use Rattle.std.specs.Prelude.{cond, List, [], ◌∷◌, ◌++◌, ℕ, Float, Err, Ok}
 use Rattle.std.specs.Float.Ieee.{le}
 use Rattle.laws.specs.Ops.{◌⊕◌, ◌⊖◌, ◌⊘◌}
 use Rattle.angle.specs.Fold.{half_fold, reciprocal}
@@ -8,14 +8,12 @@ use Rattle.time.specs.declared.Duration.{Duration}
 use Rattle.root.specs.Hypot.{hypot}
 use Rattle.elementary.specs.Refusal.{number_of}
 use Rattle.elementary.specs.declared.error.Refusal.TheVariants as Why
-use Rattle.arguments.specs.declared.Verdict.{Verdict}
-use Rattle.arguments.specs.declared.Verdict.TheVariants as Verdict
+use Rattle.std.specs.declared.result.Result.{Result}
+use Rattle.elementary.specs.declared.error.Refusal.{Refusal}
 use Rattle.motion.specs.declared.vessel.Vessel.{Vessel}
 use Rattle.motion.specs.declared.vessel.Contact.{Contact}
 use Rattle.motion.specs.declared.vessel.Components.{Components}
 use Rattle.plot.specs.declared.TargetSolution.{TargetSolution}
-use Rattle.plot.specs.declared.PlotAnswer.{PlotAnswer}
-use Rattle.plot.specs.declared.PlotAnswer.TheVariants as PlotAnswer
 use Rattle.arguments.specs.Check.{zero, Check, check, verdict, vessel_checks, contact_checks}
 use Rattle.motion.specs.Vessel.{direction_of, velocity, from_velocity, offset, difference}
 
@@ -38,21 +36,21 @@ solution own second relative =
 unfoldable pub plot_checks : Vessel → Contact → Contact → Duration → List Check
 plot_checks own first second elapsed = vessel_checks own ++ contact_checks first ++ contact_checks second ++ check (is_accepted elapsed) Why.Time ∷ []
 
-unfoldable pub plot_verdict : Vessel → Contact → Contact → Duration → Verdict
-plot_verdict own first second elapsed = verdict (plot_checks own first second elapsed) Verdict.Accepted
+unfoldable pub plot_verdict : Vessel → Contact → Contact → Duration → Result (Unit {0}) Refusal
+plot_verdict own first second elapsed = verdict (plot_checks own first second elapsed) (Ok tt)
 
 -- with accepted arguments; plots at one moment tell nothing: 6
-unfoldable pub solved : Vessel → Contact → Contact → Float → PlotAnswer
-solved own first second interval = cond (le interval zero) (PlotAnswer.Refused Why.Time) (PlotAnswer.Of (solution own second (relative_motion first second interval)))
+unfoldable pub solved : Vessel → Contact → Contact → Float → Result TargetSolution Refusal
+solved own first second interval = cond (le interval zero) (Err Why.Time) (Ok (solution own second (relative_motion first second interval)))
 
-abbrev pub plot_by : Verdict → PlotAnswer → PlotAnswer
-plot_by Verdict.Accepted a = a
-plot_by (Verdict.Refused why) a = PlotAnswer.Refused why
+abbrev pub plot_by : Result (Unit {0}) Refusal → Result TargetSolution Refusal → Result TargetSolution Refusal
+plot_by (Ok tt) a = a
+plot_by (Err why) a = Err why
 
-unfoldable pub plot_answer : Vessel → Contact → Contact → Duration → PlotAnswer
+unfoldable pub plot_answer : Vessel → Contact → Contact → Duration → Result TargetSolution Refusal
 plot_answer own first second elapsed = plot_by (plot_verdict own first second elapsed) (solved own first second (hours_of elapsed))
 
 -- document 01's number of an answer, 0 where it is answered
-abbrev pub plot_number : PlotAnswer → ℕ
-plot_number (PlotAnswer.Of s) = 0
-plot_number (PlotAnswer.Refused why) = number_of why
+abbrev pub plot_number : Result TargetSolution Refusal → ℕ
+plot_number (Ok s) = 0
+plot_number (Err why) = number_of why

@@ -4,7 +4,6 @@
 ghost use Rattle.std.specs.Prelude.{◌≡◌};
 ghost use Rattle.plot.specs.Plot as Spec;
 
-use arguments::Verdict;
 use elementary::error::Refusal;
 use motion::units::{Angle, Direction, Speed};
 use motion::vessel;
@@ -18,12 +17,6 @@ pub struct TargetSolution {
     pub relative_course: Direction,
     pub relative_speed: Speed,
     pub aspect: Angle,
-}
-
-#[derive(Clone, Copy)]
-pub enum PlotAnswer {
-    Of(TargetSolution),
-    Refused(Refusal),
 }
 
 // The target's velocity relative to own craft, from plots so many hours apart.
@@ -62,23 +55,32 @@ fn solution(own: Vessel, second: Contact, relative: Components) -> TargetSolutio
 }
 
 // With accepted arguments. Plots at one moment tell nothing.
-fn solved(own: Vessel, first: Contact, second: Contact, interval: f64) -> PlotAnswer
+fn solved(
+    own: Vessel,
+    first: Contact,
+    second: Contact,
+    interval: f64,
+) -> Result<TargetSolution, Refusal>
     ensures { result ≡ Spec.solved own first second interval }
 {
     if interval <= 0.0 {
-        return PlotAnswer::Refused(Refusal::Time);
+        return Err(Refusal::Time);
     }
-    PlotAnswer::Of(solution(own, second, relative_motion(first, second, interval)))
+    Ok(solution(own, second, relative_motion(first, second, interval)))
 }
 
-fn check_plots(own: Vessel, first: Contact, second: Contact, elapsed: Duration) -> Verdict
+fn check_plots(
+    own: Vessel,
+    first: Contact,
+    second: Contact,
+    elapsed: Duration,
+) -> Result<(), Refusal>
     ensures { result ≡ Spec.plot_verdict own first second elapsed }
 {
-    let last = arguments::unless(elapsed.is_accepted(), Refusal::Time, Verdict::Accepted);
-    arguments::check_vessel(
-        own,
-        arguments::check_contact(first, arguments::check_contact(second, last)),
-    )
+    arguments::check_vessel(own)?;
+    arguments::check_contact(first)?;
+    arguments::check_contact(second)?;
+    arguments::ensure(elapsed.is_accepted(), Refusal::Time)
 }
 
 // The target's course and speed from two plots and the time between them.
@@ -87,12 +89,9 @@ pub fn target_from_plot(
     first: Contact,
     second: Contact,
     elapsed: Duration,
-) -> PlotAnswer
+) -> Result<TargetSolution, Refusal>
     ensures { result ≡ Spec.plot_answer own first second elapsed }
 {
-    let verdict = check_plots(own, first, second, elapsed);
-    match verdict {
-        Verdict::Accepted => solved(own, first, second, elapsed.hours()),
-        Verdict::Refused(why) => PlotAnswer::Refused(why),
-    }
+    check_plots(own, first, second, elapsed)?;
+    solved(own, first, second, elapsed.hours())
 }

@@ -5,7 +5,6 @@ ghost use Rattle.std.specs.Prelude.{◌≡◌};
 ghost use Rattle.arguments.specs.Check as Check;
 ghost use Rattle.policy.specs.Policy as Spec;
 
-use arguments::Verdict;
 use elementary::error::Refusal;
 use motion::units::Distance;
 use time::Duration;
@@ -17,39 +16,25 @@ pub struct CpaPolicy {
     tcpa_limit: Duration,
 }
 
-#[derive(Clone, Copy)]
-pub enum PolicyAnswer {
-    Of(CpaPolicy),
-    Refused(Refusal),
-}
-
-// A distance, and a time that document 01 accepts.
-pub fn check_policy(policy: CpaPolicy, rest: Verdict) -> Verdict
-    ensures { result ≡ Check.verdict (Spec.policy_checks policy) rest }
+// A distance (number 3), then a time that may be handed in (6).
+pub fn check_policy(policy: CpaPolicy) -> Result<(), Refusal>
+    ensures { result ≡ Check.checked (Spec.policy_checks policy) }
 {
-    let limit = policy.cpa_limit;
-    let time = policy.tcpa_limit;
-    arguments::unless(
-        arguments::is_distance(limit),
-        Refusal::Distance,
-        arguments::unless(time.is_accepted(), Refusal::Time, rest),
-    )
+    arguments::ensure(arguments::is_distance(policy.cpa_limit), Refusal::Distance)?;
+    arguments::ensure(policy.tcpa_limit.is_accepted(), Refusal::Time)
 }
 
 impl CpaPolicy {
     // A policy of accepted limits, or the number of the first that is not.
-    pub fn new(limit: Distance, time: Duration) -> PolicyAnswer
+    pub fn new(limit: Distance, time: Duration) -> Result<CpaPolicy, Refusal>
         ensures { result ≡ Spec.policy_answer limit time }
     {
         let policy = CpaPolicy {
             cpa_limit: limit,
             tcpa_limit: time,
         };
-        let verdict = check_policy(policy, Verdict::Accepted);
-        match verdict {
-            Verdict::Accepted => PolicyAnswer::Of(policy),
-            Verdict::Refused(why) => PolicyAnswer::Refused(why),
-        }
+        check_policy(policy)?;
+        Ok(policy)
     }
 
     // The limit of the closest approach's distance, in nautical miles.

@@ -1,30 +1,35 @@
 -- What the code of the approach owes: the three cases, and the answers by the verdict.
-use mathlib.Core.Path.{◌≡◌, refl, sym, ap, ◌∙◌}
+use Rattle.std.specs.Prelude.{◌-◌, ◌^◌, Err, Ok}
+use Rattle.std.specs.Result.{result_unwrap_or}
+use mathlib.Core.Path.{◌≡◌, refl, ap, ◌∙◌}
 use mathlib.Core.Bool.{true, false}
 use mathlib.Core.List.{◌++◌}
 use lib.Ieee.{Float, neg, lt, le}
 use Rattle.laws.specs.Ops.{◌⊕◌, ◌⊖◌, ◌⊗◌, ◌⊘◌}
 use Rattle.root.specs.Hypot.{hypot}
 use Rattle.time.specs.declared.Duration.{Duration}
+use Rattle.time.specs.declared.TimeError.{TimeError}
+use Rattle.time.specs.declared.TimeError.TheVariants.{TooLong, NoTime}
 use Rattle.angle.specs.Fold.{whole_fold}
 use Rattle.elementary.specs.declared.error.Refusal.{Refusal}
-use Rattle.arguments.specs.declared.Verdict.{Verdict}
-use Rattle.arguments.specs.declared.Verdict.TheVariants.{Accepted, Refused}
+use Rattle.std.specs.declared.result.Result.{Result}
 use Rattle.motion.specs.declared.vessel.Vessel.{Vessel}
 use Rattle.motion.specs.declared.vessel.Contact.{Contact}
 use Rattle.relative_motion.specs.declared.approach.Approach.{Approach}
 use Rattle.relative_motion.specs.declared.approach.Pass.{Pass}
-use Rattle.relative_motion.specs.declared.approach.CpaAnswer.TheVariants as CpaAnswer
-use Rattle.relative_motion.specs.declared.approach.PassAnswer.TheVariants as PassAnswer
-use Rattle.relative_motion.specs.declared.approach.BearingAnswer.TheVariants as BearingAnswer
 use Rattle.motion.specs.declared.units.Direction.{Direction}
 use Rattle.motion.specs.declared.units.Distance.{Distance}
 use Rattle.motion.specs.declared.vessel.Components.{Components}
 use Rattle.relative_motion.specs.declared.approach.Approach.TheVariants.{Closing, Opening, Stationary}
-use Rattle.relative_motion.specs.declared.approach.Pass.TheVariants as Pass
-use Rattle.arguments.specs.Check.{zero, verdict, vessel_checks, contact_checks, encounter_checks}
+use Rattle.arguments.specs.Check.{zero, vessel_checks, contact_checks, encounter_checks, checked}
 use Rattle.motion.specs.Vessel.{direction_of, offset, relative_velocity}
-use Rattle.relative_motion.specs.Approach.{stationary_knots, time_to_go, relative_speed, closing_rate, time_of, closest, approach_from, approach, cpa_by, cpa_answer, passing_in, passing_of_answer, passing_answer, bearing_by, bearing_answer}
+use Rattle.relative_motion.specs.Approach.{stationary_knots, time_in, time_to_go, relative_speed, closing_rate, time_of, closest, approach_from, approach, cpa_by, cpa_answer, passing_in, passing_of_answer, passing_answer, bearing_by, bearing_answer}
+
+-- a time that is too long is the longest one
+pub time_or_longest : (r : Result Duration TimeError) → result_unwrap_or r (record { secs = 2 ^ 64 - 1; nanos = 999999999 }) ≡ time_in r
+time_or_longest (Ok d) = refl
+time_or_longest (Err TooLong) = refl
+time_or_longest (Err NoTime) = refl
 
 module _ (range : Distance) (position relative : Components) (speed : Float) (is : speed ≡ hypot relative.north relative.east) where
   abbrev hours : Float
@@ -56,33 +61,29 @@ module _ (range : Distance) (position relative : Components) (speed : Float) (is
   pub pass_closing : lt speed stationary_knots ≡ false → le hours zero ≡ false → (d : Float) → d ≡ hypot point.north point.east → Pass.Closing (record { 0 = d }) ≡ passing_in (approach_from range position relative)
   pass_closing p q d e = ap passing_in (closing p q d (time_to_go hours) (direction_of point) e refl refl)
 
--- ---- the answers, by the verdict v
-module _ (own : Vessel) (contact : Contact) (target : Vessel) (v : Verdict) (is : v ≡ verdict (encounter_checks own contact target) Accepted) where
-  pub answered : (a : Approach) → v ≡ Accepted → a ≡ approach_from contact.range (offset contact) (relative_velocity own target) → CpaAnswer.Of a ≡ cpa_answer own contact target
+-- ---- the answers, by the verdict on the arguments
+module _ (own : Vessel) (contact : Contact) (target : Vessel) where
+  pub answered : (a : Approach) → Ok tt ≡ checked (encounter_checks own contact target) → a ≡ approach_from contact.range (offset contact) (relative_velocity own target) → Ok a ≡ cpa_answer own contact target
   unfolding cpa_answer approach
-  answered a h e = ap CpaAnswer.Of e ∙ ap (λ w. cpa_by w (approach_from contact.range (offset contact) (relative_velocity own target))) (sym h ∙ is)
+  answered a h e = ap Ok e ∙ ap (λ w. cpa_by w (approach_from contact.range (offset contact) (relative_velocity own target))) h
 
-  pub refused : (why : Refusal) → v ≡ Refused why → CpaAnswer.Refused why ≡ cpa_answer own contact target
+  pub refused : (why : Refusal) → Err why ≡ checked (encounter_checks own contact target) → Err why ≡ cpa_answer own contact target
   unfolding cpa_answer
-  refused why h = ap (λ w. cpa_by w (approach own contact target)) (sym h ∙ is)
+  refused why h = ap (λ w. cpa_by w (approach own contact target)) h
 
-  pub passed : (p : Pass) → v ≡ Accepted → p ≡ passing_in (approach_from contact.range (offset contact) (relative_velocity own target)) → PassAnswer.Of p ≡ passing_answer own contact target
+  pub passed : (p : Pass) → Ok tt ≡ checked (encounter_checks own contact target) → p ≡ passing_in (approach_from contact.range (offset contact) (relative_velocity own target)) → Ok p ≡ passing_answer own contact target
   unfolding passing_answer
-  passed p h e = ap PassAnswer.Of e ∙ ap passing_of_answer (answered (approach_from contact.range (offset contact) (relative_velocity own target)) h refl)
+  passed p h e = ap Ok e ∙ ap passing_of_answer (answered (approach_from contact.range (offset contact) (relative_velocity own target)) h refl)
 
-  pub pass_refused : (why : Refusal) → v ≡ Refused why → PassAnswer.Refused why ≡ passing_answer own contact target
+  pub pass_refused : (why : Refusal) → Err why ≡ checked (encounter_checks own contact target) → Err why ≡ passing_answer own contact target
   unfolding passing_answer
   pass_refused why h = ap passing_of_answer (refused why h)
 
-module _ (own : Vessel) (contact : Contact) (w v : Verdict) (ew : w ≡ verdict (contact_checks contact) Accepted) (ev : v ≡ verdict (vessel_checks own) w) where
-  checked : v ≡ verdict (vessel_checks own ++ contact_checks contact) Accepted
-  unfolding verdict
-  checked = ev ∙ ap (verdict (vessel_checks own)) ew
-
-  pub borne : (b : Float) → v ≡ Accepted → b ≡ whole_fold (contact.bearing.0 ⊖ own.course.0) → BearingAnswer.Of (record { 0 = b }) ≡ bearing_answer own contact
+module _ (own : Vessel) (contact : Contact) where
+  pub borne : (b : Float) → Ok tt ≡ checked (vessel_checks own ++ contact_checks contact) → b ≡ whole_fold (contact.bearing.0 ⊖ own.course.0) → Ok (record { 0 = b }) ≡ bearing_answer own contact
   unfolding bearing_answer
-  borne b h e = ap (λ b. BearingAnswer.Of (record { 0 = b })) e ∙ ap (λ w. bearing_by w (whole_fold (contact.bearing.0 ⊖ own.course.0))) (sym h ∙ checked)
+  borne b h e = ap (λ b. Ok (record { 0 = b })) e ∙ ap (λ w. bearing_by w (whole_fold (contact.bearing.0 ⊖ own.course.0))) h
 
-  pub bearing_refused : (why : Refusal) → v ≡ Refused why → BearingAnswer.Refused why ≡ bearing_answer own contact
+  pub bearing_refused : (why : Refusal) → Err why ≡ checked (vessel_checks own ++ contact_checks contact) → Err why ≡ bearing_answer own contact
   unfolding bearing_answer
-  bearing_refused why h = ap (λ w. bearing_by w (whole_fold (contact.bearing.0 ⊖ own.course.0))) (sym h ∙ checked)
+  bearing_refused why h = ap (λ w. bearing_by w (whole_fold (contact.bearing.0 ⊖ own.course.0))) h

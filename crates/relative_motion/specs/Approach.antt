@@ -1,31 +1,24 @@
 -- The closest point of approach (relative_motion.rs, `closest_point_of_approach`, `relative_bearing_of`), operation by operation, in two stages: the offset and the relative velocity, and what follows from them.
-use Rattle.std.specs.Prelude.{cond, ◌++◌, ℕ, ◌-◌, ◌^◌, Float}
+use Rattle.std.specs.Prelude.{cond, ◌++◌, ℕ, ◌-◌, ◌^◌, Float, Err, Ok}
 use Rattle.std.specs.Float.{nan, binary64}
 use Rattle.std.specs.Float.Ieee.{neg, lt, le, of_bits}
 use Rattle.laws.specs.Ops.{◌⊕◌, ◌⊖◌, ◌⊗◌, ◌⊘◌}
 use Rattle.angle.specs.Fold.{whole_fold}
 use Rattle.time.specs.Clock.{from_hours}
 use Rattle.time.specs.declared.Duration.{Duration}
-use Rattle.time.specs.declared.TimeAnswer.{TimeAnswer}
-use Rattle.time.specs.declared.TimeAnswer.TheVariants as Time
+use Rattle.std.specs.declared.result.Result.{Result}
+use Rattle.elementary.specs.declared.error.Refusal.{Refusal}
+use Rattle.motion.specs.declared.units.RelativeBearing.{RelativeBearing}
+use Rattle.time.specs.declared.TimeError.{TimeError}
+use Rattle.time.specs.declared.TimeError.TheVariants.{NoTime, TooLong}
 use Rattle.root.specs.Hypot.{hypot}
 use Rattle.elementary.specs.Refusal.{number_of}
-use Rattle.arguments.specs.declared.Verdict.{Verdict}
-use Rattle.arguments.specs.declared.Verdict.TheVariants as Verdict
 use Rattle.motion.specs.declared.units.Distance.{Distance}
 use Rattle.motion.specs.declared.vessel.Vessel.{Vessel}
 use Rattle.motion.specs.declared.vessel.Contact.{Contact}
 use Rattle.motion.specs.declared.vessel.Components.{Components}
 use Rattle.relative_motion.specs.declared.approach.Approach.{Approach}
-use Rattle.relative_motion.specs.declared.approach.Approach.TheVariants as Approach
 use Rattle.relative_motion.specs.declared.approach.Pass.{Pass}
-use Rattle.relative_motion.specs.declared.approach.Pass.TheVariants as Pass
-use Rattle.relative_motion.specs.declared.approach.CpaAnswer.{CpaAnswer}
-use Rattle.relative_motion.specs.declared.approach.CpaAnswer.TheVariants as CpaAnswer
-use Rattle.relative_motion.specs.declared.approach.PassAnswer.{PassAnswer}
-use Rattle.relative_motion.specs.declared.approach.PassAnswer.TheVariants as PassAnswer
-use Rattle.relative_motion.specs.declared.approach.BearingAnswer.{BearingAnswer}
-use Rattle.relative_motion.specs.declared.approach.BearingAnswer.TheVariants as BearingAnswer
 use Rattle.arguments.specs.Check.{zero, verdict, vessel_checks, contact_checks, encounter_checks}
 use Rattle.motion.specs.Vessel.{direction_of, offset, relative_velocity}
 
@@ -34,10 +27,10 @@ abbrev pub stationary_knots : Float
 stationary_knots = of_bits binary64 0x3e11_2e0b_e826_d695
 
 -- a time that is too long is the longest one
-abbrev pub time_in : TimeAnswer → Duration
-time_in (Time.Of d) = d
-time_in Time.TooLong = record { secs = 2 ^ 64 - 1; nanos = 999999999 }
-time_in Time.NoTime = record { secs = 2 ^ 64 - 1; nanos = 999999999 }
+abbrev pub time_in : Result Duration TimeError → Duration
+time_in (Ok d) = d
+time_in (Err TooLong) = record { secs = 2 ^ 64 - 1; nanos = 999999999 }
+time_in (Err NoTime) = record { secs = 2 ^ 64 - 1; nanos = 999999999 }
 
 unfoldable pub time_to_go : Float → Duration
 time_to_go hours = time_in (from_hours hours)
@@ -67,12 +60,12 @@ unfoldable pub approach : Vessel → Contact → Vessel → Approach
 approach own contact target = approach_from contact.range (offset contact) (relative_velocity own target)
 
 -- ---- the answers, by the verdict on the arguments
-abbrev pub cpa_by : Verdict → Approach → CpaAnswer
-cpa_by Verdict.Accepted a = CpaAnswer.Of a
-cpa_by (Verdict.Refused why) a = CpaAnswer.Refused why
+abbrev pub cpa_by : Result (Unit {0}) Refusal → Approach → Result Approach Refusal
+cpa_by (Ok tt) a = Ok a
+cpa_by (Err why) a = Err why
 
-unfoldable pub cpa_answer : Vessel → Contact → Vessel → CpaAnswer
-cpa_answer own contact target = cpa_by (verdict (encounter_checks own contact target) Verdict.Accepted) (approach own contact target)
+unfoldable pub cpa_answer : Vessel → Contact → Vessel → Result Approach Refusal
+cpa_answer own contact target = cpa_by (verdict (encounter_checks own contact target) (Ok tt)) (approach own contact target)
 
 -- an approach without its time and bearing
 abbrev pub passing_in : Approach → Pass
@@ -80,24 +73,24 @@ passing_in (Approach.Closing cpa) = Pass.Closing cpa.distance
 passing_in (Approach.Opening range) = Pass.Opening range
 passing_in (Approach.Stationary range) = Pass.Stationary range
 
-abbrev pub passing_of_answer : CpaAnswer → PassAnswer
-passing_of_answer (CpaAnswer.Of a) = PassAnswer.Of (passing_in a)
-passing_of_answer (CpaAnswer.Refused why) = PassAnswer.Refused why
+abbrev pub passing_of_answer : Result Approach Refusal → Result Pass Refusal
+passing_of_answer (Ok a) = Ok (passing_in a)
+passing_of_answer (Err why) = Err why
 
-unfoldable pub passing_answer : Vessel → Contact → Vessel → PassAnswer
+unfoldable pub passing_answer : Vessel → Contact → Vessel → Result Pass Refusal
 passing_answer own contact target = passing_of_answer (cpa_answer own contact target)
 
-abbrev pub bearing_by : Verdict → Float → BearingAnswer
-bearing_by Verdict.Accepted b = BearingAnswer.Of (record { 0 = b })
-bearing_by (Verdict.Refused why) b = BearingAnswer.Refused why
+abbrev pub bearing_by : Result (Unit {0}) Refusal → Float → Result RelativeBearing Refusal
+bearing_by (Ok tt) b = Ok (record { 0 = b })
+bearing_by (Err why) b = Err why
 
-unfoldable pub bearing_answer : Vessel → Contact → BearingAnswer
-bearing_answer own contact = bearing_by (verdict (vessel_checks own ++ contact_checks contact) Verdict.Accepted) (whole_fold (contact.bearing.0 ⊖ own.course.0))
+unfoldable pub bearing_answer : Vessel → Contact → Result RelativeBearing Refusal
+bearing_answer own contact = bearing_by (verdict (vessel_checks own ++ contact_checks contact) (Ok tt)) (whole_fold (contact.bearing.0 ⊖ own.course.0))
 
 -- ---- document 01's number of an answer, 0 where it is answered, and its values
-abbrev pub cpa_number : CpaAnswer → ℕ
-cpa_number (CpaAnswer.Of a) = 0
-cpa_number (CpaAnswer.Refused why) = number_of why
+abbrev pub cpa_number : Result Approach Refusal → ℕ
+cpa_number (Ok a) = 0
+cpa_number (Err why) = number_of why
 
 -- 0 closing, 1 opening, 2 stationary
 abbrev pub approach_kind : Approach → ℕ
@@ -111,10 +104,10 @@ approach_distance (Approach.Closing cpa) = cpa.distance.0
 approach_distance (Approach.Opening range) = range.0
 approach_distance (Approach.Stationary range) = range.0
 
-abbrev pub bearing_number : BearingAnswer → ℕ
-bearing_number (BearingAnswer.Of b) = 0
-bearing_number (BearingAnswer.Refused why) = number_of why
+abbrev pub bearing_number : Result RelativeBearing Refusal → ℕ
+bearing_number (Ok b) = 0
+bearing_number (Err why) = number_of why
 
-abbrev pub bearing_value : BearingAnswer → Float
-bearing_value (BearingAnswer.Of b) = b.0
-bearing_value (BearingAnswer.Refused why) = nan
+abbrev pub bearing_value : Result RelativeBearing Refusal → Float
+bearing_value (Ok b) = b.0
+bearing_value (Err why) = nan

@@ -2,12 +2,11 @@
 ghost use Rattle.std.specs.Prelude.{◌≡◌};
 ghost use Rattle.relative_motion.specs.Approach as Spec;
 
-use arguments::Verdict;
 use elementary::error::Refusal;
 use motion::units::{Direction, Distance, RelativeBearing};
 use motion::vessel;
 use motion::vessel::{Components, Contact, Vessel};
-use time::{Duration, TimeAnswer};
+use time::Duration;
 
 // Relative speed, in knots, below which a contact keeps its bearing and range.
 const STATIONARY_KNOTS: f64 = 1e-9;
@@ -36,39 +35,14 @@ pub enum Pass {
     Stationary(Distance),
 }
 
-#[derive(Clone, Copy)]
-pub enum CpaAnswer {
-    Of(Approach),
-    Refused(Refusal),
-}
-
-#[derive(Clone, Copy)]
-pub enum PassAnswer {
-    Of(Pass),
-    Refused(Refusal),
-}
-
-#[derive(Clone, Copy)]
-pub enum BearingAnswer {
-    Of(RelativeBearing),
-    Refused(Refusal),
-}
-
 // A time of so many hours; the longest one where it is too long, which no accepted argument brings about.
 fn time_to_go(hours: f64) -> Duration
     ensures { result ≡ Spec.time_to_go hours }
 {
-    match time::duration_from_hours(hours) {
-        TimeAnswer::Of(d) => d,
-        TimeAnswer::TooLong => Duration {
-            secs: 18446744073709551615,
-            nanos: 999999999,
-        },
-        TimeAnswer::NoTime => Duration {
-            secs: 18446744073709551615,
-            nanos: 999999999,
-        },
-    }
+    time::duration_from_hours(hours).unwrap_or(Duration {
+        secs: 18446744073709551615,
+        nanos: 999999999,
+    })
 }
 
 // The approach of a contact at a range and an offset, with a velocity relative to own craft.
@@ -77,7 +51,7 @@ pub fn approach_from(range: Distance, offset: Components, relative: Components) 
 {
     let relative_speed = root::hypot(relative.north, relative.east);
     if relative_speed < STATIONARY_KNOTS {
-        return Approach::Stationary { range: range };
+        return Approach::Stationary { range };
     }
     let closing_rate = offset.north * relative.north + offset.east * relative.east;
     let time = -closing_rate / (relative_speed * relative_speed);
@@ -90,13 +64,10 @@ pub fn approach_from(range: Distance, offset: Components, relative: Components) 
         north: offset.north + relative.north * time,
         east: offset.east + relative.east * time,
     };
-    let distance = Distance(root::hypot(closest.north, closest.east));
-    let to_go = time_to_go(time);
-    let bearing = vessel::direction_of(closest);
     Approach::Closing(Cpa {
-        distance: distance,
-        time_to_go: to_go,
-        bearing: bearing,
+        distance: Distance(root::hypot(closest.north, closest.east)),
+        time_to_go: time_to_go(time),
+        bearing: vessel::direction_of(closest),
     })
 }
 
@@ -119,47 +90,38 @@ pub fn passing_from(range: Distance, offset: Components, relative: Components) -
 }
 
 // The closest point of approach at present courses and speeds.
-pub fn closest_point_of_approach(own: Vessel, contact: Contact, target: Vessel) -> CpaAnswer
+pub fn closest_point_of_approach(
+    own: Vessel,
+    contact: Contact,
+    target: Vessel,
+) -> Result<Approach, Refusal>
     ensures { result ≡ Spec.cpa_answer own contact target }
 {
-    let verdict = arguments::check_encounter(own, contact, target, Verdict::Accepted);
-    match verdict {
-        Verdict::Accepted => CpaAnswer::Of(approach_from(
-            contact.range,
-            contact.offset(),
-            vessel::relative_velocity(own, target),
-        )),
-        Verdict::Refused(why) => CpaAnswer::Refused(why),
-    }
+    arguments::check_encounter(own, contact, target)?;
+    Ok(approach_from(
+        contact.range,
+        contact.offset(),
+        vessel::relative_velocity(own, target),
+    ))
 }
 
 // Its kind and distance alone, at the price of no arctangent and no time.
-pub fn passing(own: Vessel, contact: Contact, target: Vessel) -> PassAnswer
+pub fn passing(own: Vessel, contact: Contact, target: Vessel) -> Result<Pass, Refusal>
     ensures { result ≡ Spec.passing_answer own contact target }
 {
-    let verdict = arguments::check_encounter(own, contact, target, Verdict::Accepted);
-    match verdict {
-        Verdict::Accepted => PassAnswer::Of(passing_from(
-            contact.range,
-            contact.offset(),
-            vessel::relative_velocity(own, target),
-        )),
-        Verdict::Refused(why) => PassAnswer::Refused(why),
-    }
+    arguments::check_encounter(own, contact, target)?;
+    Ok(passing_from(
+        contact.range,
+        contact.offset(),
+        vessel::relative_velocity(own, target),
+    ))
 }
 
 // The bearing of a contact from own bow.
-pub fn relative_bearing_of(own: Vessel, contact: Contact) -> BearingAnswer
+pub fn relative_bearing_of(own: Vessel, contact: Contact) -> Result<RelativeBearing, Refusal>
     ensures { result ≡ Spec.bearing_answer own contact }
 {
-    let verdict = arguments::check_vessel(
-        own,
-        arguments::check_contact(contact, Verdict::Accepted),
-    );
-    match verdict {
-        Verdict::Accepted => BearingAnswer::Of(RelativeBearing(angle::from_degrees_wrapped(
-            contact.bearing.0 - own.course.0,
-        ))),
-        Verdict::Refused(why) => BearingAnswer::Refused(why),
-    }
+    arguments::check_vessel(own)?;
+    arguments::check_contact(contact)?;
+    Ok(RelativeBearing(angle::from_degrees_wrapped(contact.bearing.0 - own.course.0)))
 }

@@ -5,18 +5,21 @@ use Prim.Native.Nat.{ℕ}
 use lib.ListN.{length}
 use lib.Ieee.{Float}
 use Rattle.situation.specs.declared.party.Party.{Party}
-use Rattle.situation.specs.declared.party.Perhaps.{Perhaps}
+use Rattle.std.specs.declared.option.Option.{Option}
+use Rattle.std.specs.declared.result.Result.{Result}
+use Rattle.elementary.specs.declared.error.Refusal.{Refusal}
+use Rattle.motion.specs.declared.units.Direction.{Direction}
+use Rattle.rulings.specs.declared.RuledManoeuvre.{RuledManoeuvre}
 use Rattle.situation.specs.declared.party.Visibility.{Visibility}
 use Rattle.constraints.specs.declared.ManoeuvreConstraints.{ManoeuvreConstraints}
 use Rattle.traffic.specs.declared.Entry.{Entry}
-use Rattle.rulings.specs.declared.RuledAnswer.{RuledAnswer}
 use Rattle.rulings.specs.Ruled.{ruled_answer}
 use Rattle.sheet_record.specs.declared.Header.{Header}
 use Rattle.sheet_record.specs.declared.Row.{Row}
 use Rattle.sheet_values.specs.Values.{scaled, visibility_of, own_of, wind_from, entry_of}
 use Rattle.report.specs.Report.{answer_on}
 
-pub answered : (h : Header) (rs : List Row) (c : ManoeuvreConstraints) (own : Party) (n count : ℕ) (es : List Entry) (visibility : Visibility) (wind : Perhaps) (x : Float) {r : RuledAnswer}
+pub answered : (h : Header) (rs : List Row) (c : ManoeuvreConstraints) (own : Party) (n count : ℕ) (es : List Entry) (visibility : Visibility) (wind : Option Direction) (x : Float) {r : Result RuledManoeuvre Refusal}
     → own ≡ own_of h → n ≡ count → count ≡ length rs → es ≡ map entry_of rs → visibility ≡ visibility_of h.visibility → wind ≡ wind_from h → x ≡ scaled h.desired
     → r ≡ ruled_answer own n es visibility wind (record { 0 = x }) c → r ≡ answer_on h rs c
 unfolding answer_on

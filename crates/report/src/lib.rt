@@ -6,31 +6,30 @@ ghost use Rattle.text.specs.Text.{shown, appended};
 ghost use Rattle.sheet_record.specs.Record as Record;
 ghost use Rattle.report.specs.Report as Spec;
 
-use arguments::Verdict;
-use constraints::{ConstraintsAnswer, ManoeuvreConstraints};
+use constraints::ManoeuvreConstraints;
+use elementary::error::Refusal;
 use motion::units::Distance;
-use policy::PolicyAnswer;
-use rulings::RuledAnswer;
+use rulings::RuledManoeuvre;
 use sheet_limits::{constraints_on, id_at, policy_on};
 use sheet_record::{Header, Rows};
 use sheet_values::scaled;
 use text::Text;
 
 // The line on the ruled search's answer.
-fn put_answer(t: Text, rows: Rows, answer: RuledAnswer) -> Text
+fn put_answer(t: Text, rows: Rows, answer: Result<RuledManoeuvre, Refusal>) -> Text
     ensures { shown result ≡ appended (shown t) (Spec.answer_line (Record.rows rows) answer) }
 {
     match answer {
-        RuledAnswer::Of(m) => {
+        Ok(m) => {
             let limiting = m.limiting;
             lines::alter_line(t, m, id_at(rows, limiting))
         }
-        RuledAnswer::Refused(why) => lines::refused_line(t, why),
+        Err(why) => lines::refused_line(t, why),
     }
 }
 
 // The ruled search on a sheet.
-fn answer_on(h: Header, rows: Rows, c: ManoeuvreConstraints) -> RuledAnswer
+fn answer_on(h: Header, rows: Rows, c: ManoeuvreConstraints) -> Result<RuledManoeuvre, Refusal>
     requires { rows.count ≡ length (Record.rows rows) }
     ensures { result ≡ Spec.answer_on h (Record.rows rows) c }
 {
@@ -48,17 +47,17 @@ fn lines_on(h: Header, rows: Rows) -> Text
     ensures { shown result ≡ Spec.lines_on h (Record.rows rows) }
 {
     match policy_on(h) {
-        PolicyAnswer::Of(p) => match constraints_on(h) {
-            ConstraintsAnswer::Of(c) => {
+        Ok(p) => match constraints_on(h) {
+            Ok(c) => {
                 let own = sheet_values::own_of(h);
                 let visibility = sheet_values::visibility_of(h.visibility);
                 let wind = sheet_values::wind_from(h);
                 let t = contact_lines::put_rows(Text::blank(), own, visibility, wind, p, rows);
                 put_answer(t, rows, answer_on(h, rows, c))
             }
-            ConstraintsAnswer::Refused(why) => lines::refused_line(Text::blank(), why),
+            Err(why) => lines::refused_line(Text::blank(), why),
         },
-        PolicyAnswer::Refused(why) => lines::refused_line(Text::blank(), why),
+        Err(why) => lines::refused_line(Text::blank(), why),
     }
 }
 
@@ -68,11 +67,11 @@ pub fn report(bytes: &[u8]) -> Text
 {
     let verdict = sheet::check_sheet(bytes);
     match verdict {
-        Verdict::Accepted => {
+        Ok(()) => {
             let h = sheet_record::header_of(bytes);
             let rows = sheet_record::rows_of(bytes);
             lines_on(h, rows)
         }
-        Verdict::Refused(why) => lines::refused_line(Text::blank(), why),
+        Err(why) => lines::refused_line(Text::blank(), why),
     }
 }

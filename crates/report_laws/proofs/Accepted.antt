@@ -1,12 +1,13 @@
 -- What it means that a sheet is accepted: every check is good, and with them those of the functions that are asked.
+use Rattle.std.specs.Prelude.{Err, Ok}
 use mathlib.Core.Path.{◌≡◌, sym, ap}
 use mathlib.Core.Bool.{Bool, true, false, true≢false}
 use mathlib.Core.List.{List, [], ◌++◌, map}
 use Prim.Native.Nat.{ℕ}
 use lib.Dec.{le→leb}
 use lib.ListN.{length}
-use Rattle.arguments.specs.declared.Verdict.{Verdict}
-use Rattle.arguments.specs.declared.Verdict.TheVariants as Verdict
+use Rattle.std.specs.declared.result.Result.{Result}
+use Rattle.elementary.specs.declared.error.Refusal.{Refusal}
 use Rattle.arguments.specs.Check.{Check, verdict, vessel_checks, distance_checks}
 use Rattle.situation.specs.Arguments.{perhaps_checks, party_checks}
 use Rattle.constraints.specs.Constraints.{alteration_checks, constraint_checks}
@@ -20,24 +21,22 @@ use Rattle.rulings.specs.Ruled.{ruled_checks}
 use Rattle.sheet_words.specs.Word.{words}
 use Rattle.sheet_record.specs.declared.Header.{Header}
 use Rattle.sheet_record.specs.declared.Row.{Row}
-use Rattle.sheet_record.specs.declared.Readable.{Readable}
-use Rattle.sheet_record.specs.declared.Readable.TheVariants as Readable
 use Rattle.sheet_record.specs.Record.{header_of, rows_of, readable}
 use Rattle.sheet_record.proofs.Filling.{few-rows}
 use Rattle.sheet_values.specs.Values.{scaled, own_of, party_of, wind_from, entry_of}
 use Rattle.sheet.specs.Sheet.{code_checks, limit_checks, value_checks, by_layout, sheet_verdict}
 use Rattle.report_laws.specs.Plain.{constraints, desired}
 
-abbrev accepts : Verdict → Bool
-accepts Verdict.Accepted = true
-accepts (Verdict.Refused why) = false
+abbrev accepts : Result (Unit {0}) Refusal → Bool
+accepts (Ok tt) = true
+accepts (Err why) = false
 
 -- with a layout that is right the values' verdict decides
-values_decide : (r : Readable) (v : Verdict) → by_layout r v ≡ Verdict.Accepted → v ≡ Verdict.Accepted
-values_decide Readable.Yes v e = e
-values_decide (Readable.Refused why) v e = absurd (true≢false (sym (ap accepts e)))
+values_decide : (r : Result (Unit {0}) Refusal) (v : Result (Unit {0}) Refusal) → by_layout r v ≡ (Ok tt) → v ≡ (Ok tt)
+values_decide (Ok tt) v e = e
+values_decide (Err why) v e = absurd (true≢false (sym (ap accepts e)))
 
-module _ (s : List ℕ) (ok : sheet_verdict s ≡ Verdict.Accepted) where
+module _ (s : List ℕ) (ok : sheet_verdict s ≡ (Ok tt)) where
   abbrev h : Header
   h = header_of (words s)
 
@@ -49,7 +48,7 @@ module _ (s : List ℕ) (ok : sheet_verdict s ≡ Verdict.Accepted) where
 
   values_good : AllGood (value_checks h es)
   unfolding sheet_verdict
-  values_good = good_back (code_checks h rs) (value_checks h es) (all_good (code_checks h rs ++ value_checks h es) (values_decide (readable s) (verdict (code_checks h rs ++ value_checks h es) Verdict.Accepted) ok))
+  values_good = good_back (code_checks h rs) (value_checks h es) (all_good (code_checks h rs ++ value_checks h es) (values_decide (readable s) (verdict (code_checks h rs ++ value_checks h es) (Ok tt)) ok))
 
   -- the checks from the desired distance on, from the alterations on, from the limits on
   abbrev from_limits : List Check

@@ -1,17 +1,14 @@
 -- Every report has at least one byte, so that a caller of the C interface can tell 0, no room, from an answer; and at most 4,232, which is the room that a caller needs: 32 lines of at most 129 bytes and one of at most 104.
+use Rattle.std.specs.Prelude.{Err, Ok}
 use mathlib.Core.List.{List}
 use Prim.Native.Nat.{ℕ, ◌≤◌, ◌<◌}
 use native.Mathlib.Omega.{arith}
 use lib.ListN.{length, length-append}
 use Rattle.elementary.specs.declared.error.Refusal.{Refusal}
-use Rattle.arguments.specs.declared.Verdict.{Verdict}
-use Rattle.arguments.specs.declared.Verdict.TheVariants as Verdict
-use Rattle.policy.specs.declared.PolicyAnswer.{PolicyAnswer}
-use Rattle.policy.specs.declared.PolicyAnswer.TheVariants as Policy
-use Rattle.constraints.specs.declared.ConstraintsAnswer.{ConstraintsAnswer}
-use Rattle.constraints.specs.declared.ConstraintsAnswer.TheVariants as Constraints
-use Rattle.rulings.specs.declared.RuledAnswer.{RuledAnswer}
-use Rattle.rulings.specs.declared.RuledAnswer.TheVariants as Ruled
+use Rattle.constraints.specs.declared.ManoeuvreConstraints.{ManoeuvreConstraints}
+use Rattle.std.specs.declared.result.Result.{Result}
+use Rattle.policy.specs.declared.CpaPolicy.{CpaPolicy}
+use Rattle.rulings.specs.declared.RuledManoeuvre.{RuledManoeuvre}
 use Rattle.text.specs.Text.{bytes}
 use Rattle.lines.specs.Lines.{alter_line, refused_line}
 use Rattle.sheet_words.specs.Word.{words}
@@ -31,21 +28,21 @@ refused-some : (why : Refusal) → 0 < length (refused_line why)
 unfolding refused_line bytes
 refused-some why = omega arith
 
-answer_some : (rs : List Row) (a : RuledAnswer) → 0 < length (answer_line rs a)
+answer_some : (rs : List Row) (a : Result RuledManoeuvre Refusal) → 0 < length (answer_line rs a)
 unfolding alter_line bytes
-answer_some rs (Ruled.Of m) = omega arith
-answer_some rs (Ruled.Refused why) = refused-some why
+answer_some rs (Ok m) = omega arith
+answer_some rs (Err why) = refused-some why
 
-lines_some : (h : Header) (rs : List Row) (p : PolicyAnswer) (c : ConstraintsAnswer) → 0 < length (lines_by h rs p c)
-lines_some h rs (Policy.Of p) (Constraints.Of c) =
+lines_some : (h : Header) (rs : List Row) (p : Result CpaPolicy Refusal) (c : Result ManoeuvreConstraints Refusal) → 0 < length (lines_by h rs p c)
+lines_some h rs (Ok p) (Ok c) =
     let contacts = contact_lines (own_of h) (visibility_of h.visibility) (wind_from h) p rs in
     omega (arith, length-append contacts (answer_line rs (answer_on h rs c)), answer_some rs (answer_on h rs c))
-lines_some h rs (Policy.Of p) (Constraints.Refused why) = refused-some why
-lines_some h rs (Policy.Refused why) c = refused-some why
+lines_some h rs (Ok p) (Err why) = refused-some why
+lines_some h rs (Err why) c = refused-some why
 
-by_verdict_lem : (v : Verdict) (lines : List ℕ) → 0 < length lines → 0 < length (by_verdict v lines)
-by_verdict_lem Verdict.Accepted lines h = h
-by_verdict_lem (Verdict.Refused why) lines h = refused-some why
+by_verdict_lem : (v : Result (Unit {0}) Refusal) (lines : List ℕ) → 0 < length lines → 0 < length (by_verdict v lines)
+by_verdict_lem (Ok tt) lines h = h
+by_verdict_lem (Err why) lines h = refused-some why
 
 pub some_bytes : (s : List ℕ) → 0 < length (report s)
 unfolding report lines_on
@@ -55,16 +52,16 @@ some_bytes s =
     by_verdict_lem (sheet_verdict s) (lines_by h rs (policy_on h) (constraints_on h)) (lines_some h rs (policy_on h) (constraints_on h))
 
 -- ---- at most
-lines_short : (h : Header) (rs : List Row) (p : PolicyAnswer) (c : ConstraintsAnswer) → length rs ≤ max_contacts → length (lines_by h rs p c) ≤ 4232
-lines_short h rs (Policy.Of p) (Constraints.Of c) few =
+lines_short : (h : Header) (rs : List Row) (p : Result CpaPolicy Refusal) (c : Result ManoeuvreConstraints Refusal) → length rs ≤ max_contacts → length (lines_by h rs p c) ≤ 4232
+lines_short h rs (Ok p) (Ok c) few =
     let contacts = contact_lines (own_of h) (visibility_of h.visibility) (wind_from h) p rs in
     omega (arith, length-append contacts (answer_line rs (answer_on h rs c)), contacts_short (own_of h) (visibility_of h.visibility) (wind_from h) p rs, answer_short rs (answer_on h rs c), few)
-lines_short h rs (Policy.Of p) (Constraints.Refused why) few = omega (arith, refused_short why)
-lines_short h rs (Policy.Refused why) c few = omega (arith, refused_short why)
+lines_short h rs (Ok p) (Err why) few = omega (arith, refused_short why)
+lines_short h rs (Err why) c few = omega (arith, refused_short why)
 
-short_by : (v : Verdict) (lines : List ℕ) → length lines ≤ 4232 → length (by_verdict v lines) ≤ 4232
-short_by Verdict.Accepted lines h = h
-short_by (Verdict.Refused why) lines h = omega (arith, refused_short why)
+short_by : (v : Result (Unit {0}) Refusal) (lines : List ℕ) → length lines ≤ 4232 → length (by_verdict v lines) ≤ 4232
+short_by (Ok tt) lines h = h
+short_by (Err why) lines h = omega (arith, refused_short why)
 
 pub at_most : (s : List ℕ) → length (report s) ≤ 4232
 unfolding report lines_on

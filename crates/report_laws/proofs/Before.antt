@@ -1,13 +1,14 @@
 -- A sheet without the wind prints as it did before a sheet could tell it, and one with it was refused with 15.
+use Rattle.std.specs.Prelude.{Err, Ok}
 use mathlib.Core.Path.{◌≡◌, refl, ap, ◌∙◌}
 use mathlib.Core.Bool.{true}
 use mathlib.Core.List.{List}
 use Prim.Native.Nat.{ℕ}
 use Rattle.elementary.specs.declared.error.Refusal.TheVariants as Why
-use Rattle.policy.specs.declared.PolicyAnswer.{PolicyAnswer}
-use Rattle.policy.specs.declared.PolicyAnswer.TheVariants as Policy
-use Rattle.constraints.specs.declared.ConstraintsAnswer.{ConstraintsAnswer}
-use Rattle.constraints.specs.declared.ConstraintsAnswer.TheVariants as Constraints
+use Rattle.constraints.specs.declared.ManoeuvreConstraints.{ManoeuvreConstraints}
+use Rattle.std.specs.declared.result.Result.{Result}
+use Rattle.elementary.specs.declared.error.Refusal.{Refusal}
+use Rattle.policy.specs.declared.CpaPolicy.{CpaPolicy}
 use Rattle.sheet_words.specs.Word.{words, has_wind}
 use Rattle.sheet_record.specs.declared.Row.{Row}
 use Rattle.sheet_record.specs.Record as Record
@@ -20,11 +21,11 @@ use Rattle.sheet_laws.proofs.Before.{extends}
 use Rattle.report_laws.specs.Before.{answer_on, lines_by, lines_on, report, PrintsAsBefore}
 
 -- ---- the lines, where the header's wind is unknown
-same_by : (ws : List ℕ) (rs : List Row) (p : PolicyAnswer) (c : ConstraintsAnswer) → Report.lines_by (header_of ws) rs p c ≡ lines_by (header_of ws) rs p c
+same_by : (ws : List ℕ) (rs : List Row) (p : Result CpaPolicy Refusal) (c : Result ManoeuvreConstraints Refusal) → Report.lines_by (header_of ws) rs p c ≡ lines_by (header_of ws) rs p c
 unfolding header_of wind_from Report.answer_on answer_on
-same_by ws rs (Policy.Of p) (Constraints.Of c) = refl
-same_by ws rs (Policy.Of p) (Constraints.Refused why) = refl
-same_by ws rs (Policy.Refused why) c = refl
+same_by ws rs (Ok p) (Ok c) = refl
+same_by ws rs (Ok p) (Err why) = refl
+same_by ws rs (Err why) c = refl
 
 same_lines : (ws : List ℕ) (rs : List Row) → Report.lines_on (header_of ws) rs ≡ lines_on (header_of ws) rs
 unfolding Report.lines_on lines_on

@@ -1,4 +1,5 @@
 -- On an accepted sheet the report has a plain line for each contact, and the answer of the ruled search, which meets demand 3.
+use Rattle.std.specs.Prelude.{None, Some, Err, Ok}
 use mathlib.Core.Path.{◌≡◌, refl, ap, ◌∙◌, subst}
 use mathlib.Core.Bool.{Bool, true, false, ◌||◌, cond}
 use mathlib.Core.Logic.{◌⊎◌, inl, inr}
@@ -13,33 +14,27 @@ use lib.Ieee.Fits.{div-fits}
 use Rattle.elementary.specs.declared.error.Refusal.{Refusal}
 use Rattle.elementary.specs.declared.error.Refusal.TheVariants as Why
 use Rattle.motion.specs.declared.vessel.Vessel.{Vessel}
-use Rattle.arguments.specs.declared.Verdict.{Verdict}
-use Rattle.arguments.specs.declared.Verdict.TheVariants as Verdict
+use Rattle.choice.specs.declared.Chosen.{Chosen}
+use Rattle.std.specs.declared.option.Option.{Option}
+use Rattle.std.specs.declared.result.Result.{Result}
+use Rattle.rulings.specs.declared.RuledManoeuvre.{RuledManoeuvre}
 use Rattle.arguments.specs.Check.{verdict, vessel_checks, contact_checks, encounter_checks}
-use Rattle.relative_motion.specs.declared.approach.CpaAnswer.TheVariants as Cpa
 use Rattle.relative_motion.specs.Approach.{approach, cpa_by, cpa_answer}
-use Rattle.policy.specs.declared.PolicyAnswer.TheVariants as Policy
 use Rattle.policy.specs.Policy.{policy_checks, policy_by, policy_answer}
 use Rattle.situation.specs.declared.party.Visibility.{Visibility}
 use Rattle.situation.specs.Situation.{standard}
 use Rattle.facts.specs.Facts.{facts_of}
-use Rattle.colregs.specs.declared.answer.RulingAnswer.TheVariants as RulingAnswer
 use Rattle.colregs.specs.Colregs.{ruling_of, ruling_answer}
 use Rattle.ruling_laws.proofs.Settled.{settled}
-use Rattle.constraints.specs.declared.ConstraintsAnswer.TheVariants as Constraints
 use Rattle.constraints.specs.declared.ManoeuvreConstraints.{ManoeuvreConstraints}
 use Rattle.constraints.specs.Constraints.{alteration_checks, constraints_by, constraints_answer}
 use Rattle.choice.specs.declared.Sides.{Sides}
-use Rattle.choice.specs.declared.Choice.{Choice}
-use Rattle.choice.specs.declared.Choice.TheVariants as Choice
 use Rattle.choice.specs.Choice.{choice_for}
 use Rattle.traffic.specs.declared.Entry.{Entry}
 use Rattle.traffic.specs.Traffic.{target_of}
 use Rattle.motion_laws.specs.Sound.{HeldVessel}
 use Rattle.choice_laws.proofs.Accepting.{good_both}
 use Rattle.choice_laws.proofs.Prepared.{accepted}
-use Rattle.rulings.specs.declared.RuledAnswer.{RuledAnswer}
-use Rattle.rulings.specs.declared.RuledAnswer.TheVariants as Ruled
 use Rattle.rulings.specs.Demand3.{OnAccepted}
 use Rattle.rulings.specs.Ruled.{situation_of, shared_sides, ruled_checks, chosen_answer, answered, ruled, ruled_by, ruled_answer}
 use Rattle.ruled_laws.specs.Held.{HeldEntry, HeldArguments}
@@ -81,19 +76,19 @@ held h rs = record {
 }
 
 -- ---- the ruled search refuses with 5 and 13 only
-abbrev Expected : RuledAnswer → Type 0
-Expected (Ruled.Of m) = Unit
-Expected (Ruled.Refused why) = (why ≡ Why.NoTrialClears) ⊎ (why ≡ Why.NoSharedSide)
+abbrev Expected : Result RuledManoeuvre Refusal → Type 0
+Expected (Ok m) = Unit
+Expected (Err why) = (why ≡ Why.NoTrialClears) ⊎ (why ≡ Why.NoSharedSide)
 
-chosen_expected : (own : Vessel) (c : ManoeuvreConstraints) (choice : Choice) → Expected (chosen_answer own c choice)
-chosen_expected own c Choice.Nothing = inl refl
-chosen_expected own c (Choice.Of chosen) = tt
+chosen_expected : (own : Vessel) (c : ManoeuvreConstraints) (choice : Option Chosen) → Expected (chosen_answer own c choice)
+chosen_expected own c None = inl refl
+chosen_expected own c (Some chosen) = tt
 
-answered_expected : (own : Vessel) (c : ManoeuvreConstraints) (sides : Sides) (choice : Choice) → Expected (answered own c sides choice)
+answered_expected : (own : Vessel) (c : ManoeuvreConstraints) (sides : Sides) (choice : Option Chosen) → Expected (answered own c sides choice)
 unfolding answered
 answered_expected own c sides choice = go (sides.starboard || sides.port)
   where
-    go : (b : Bool) → Expected (cond b (chosen_answer own c choice) (Ruled.Refused Why.NoSharedSide))
+    go : (b : Bool) → Expected (cond b (chosen_answer own c choice) (Err Why.NoSharedSide))
     go true = chosen_expected own c choice
     go false = inr refl
 
@@ -108,7 +103,7 @@ in_map r (x ∷ rs) (Memᴰ.head e) = Memᴰ.head (ap entry_of e)
 in_map r (x ∷ rs) (Memᴰ.tail m) = Memᴰ.tail (in_map r rs m)
 in_map r [] x' = elim x' [ ]
 
-module _ (s : List ℕ) (ok : sheet_verdict s ≡ Verdict.Accepted) where
+module _ (s : List ℕ) (ok : sheet_verdict s ≡ (Ok tt)) where
   abbrev h : Header
   h = header_of (words s)
 
@@ -118,7 +113,7 @@ module _ (s : List ℕ) (ok : sheet_verdict s ≡ Verdict.Accepted) where
   abbrev visibility : Visibility
   visibility = visibility_of h.visibility
 
-  search_accepted : verdict (ruled_checks (own_of h) (length rs) (map entry_of rs) (wind_from h) (desired h) (constraints h)) Verdict.Accepted ≡ Verdict.Accepted
+  search_accepted : verdict (ruled_checks (own_of h) (length rs) (map entry_of rs) (wind_from h) (desired h) (constraints h)) (Ok tt) ≡ (Ok tt)
   search_accepted = accepted (ruled_checks (own_of h) (length rs) (map entry_of rs) (wind_from h) (desired h) (constraints h)) (ruled_good s ok)
 
   -- ---- one contact
@@ -129,7 +124,7 @@ module _ (s : List ℕ) (ok : sheet_verdict s ≡ Verdict.Accepted) where
     in-traffic : Memᴰ e (map entry_of rs)
     in-traffic = in_map r rs m
 
-    approaches : cpa_answer (own_of h).motion e.contact e.target.motion ≡ Cpa.Of (approach (own_of h).motion e.contact e.target.motion)
+    approaches : cpa_answer (own_of h).motion e.contact e.target.motion ≡ Ok (approach (own_of h).motion e.contact e.target.motion)
     unfolding cpa_answer encounter_checks
     approaches =
         let g = Ruling.each_good (own_of h) (length rs) (map entry_of rs) (wind_from h) (desired h) (constraints h) search_accepted e in-traffic in
@@ -138,14 +133,14 @@ module _ (s : List ℕ) (ok : sheet_verdict s ≡ Verdict.Accepted) where
         (good_both (vessel_checks (own_of h).motion) (contact_checks e.contact ++ vessel_checks e.target.motion) (Ruling.party-vessel (own_of h) (Ruling.own_good (own_of h) (length rs) (map entry_of rs) (wind_from h) (desired h) (constraints h) search_accepted))
         (good_both (contact_checks e.contact) (vessel_checks e.target.motion) g.0 (Ruling.party-vessel e.target g.1))))
 
-    rules : ruling_answer (situation_of (own_of h) visibility (wind_from h) e) standard ≡ RulingAnswer.Of (ruling_of standard (facts_of (situation_of (own_of h) visibility (wind_from h) e)))
+    rules : ruling_answer (situation_of (own_of h) visibility (wind_from h) e) standard ≡ Ok (ruling_of standard (facts_of (situation_of (own_of h) visibility (wind_from h) e)))
     rules = Ruling.ruled (own_of h) (length rs) (map entry_of rs) (wind_from h) (desired h) (constraints h) search_accepted visibility e in-traffic
 
     same_line : line_on (own_of h) visibility (wind_from h) (policy h) r ≡ plain_line h r
     unfolding line_on plain_line
     same_line =
         ap (λ a. line_by r.id (policy h) a (ruling_answer (situation_of (own_of h) visibility (wind_from h) e) standard)) approaches
-        ∙ ap (λ g. line_by r.id (policy h) (Cpa.Of (approach (own_of h).motion e.contact e.target.motion)) g) rules
+        ∙ ap (λ g. line_by r.id (policy h) (Ok (approach (own_of h).motion e.contact e.target.motion)) g) rules
 
   all_lines : contact_lines (own_of h) visibility (wind_from h) (policy h) rs ≡ flat_map (plain_line h) rs
   unfolding contact_lines
@@ -162,25 +157,25 @@ module _ (s : List ℕ) (ok : sheet_verdict s ≡ Verdict.Accepted) where
       subst (OnAccepted (own_of h) (map entry_of rs) visibility (wind_from h) (desired h) (constraints h)) (ap (λ v. ruled_by v (plain_answer h rs)) search_accepted)
       ((demanded (own_of h) (length rs) (map entry_of rs) visibility (wind_from h) (desired h) (constraints h) (held h rs)).accepted search_accepted)
 
-  refusals : (why : Refusal) → plain_answer h rs ≡ Ruled.Refused why → (why ≡ Why.NoTrialClears) ⊎ (why ≡ Why.NoSharedSide)
+  refusals : (why : Refusal) → plain_answer h rs ≡ Err why → (why ≡ Why.NoTrialClears) ⊎ (why ≡ Why.NoSharedSide)
   unfolding ruled
   refusals why q =
       let sides = shared_sides (own_of h) visibility (wind_from h) (map entry_of rs) in
       subst Expected q (answered_expected (own_of h).motion (constraints h) sides (choice_for (own_of h).motion (map target_of (map entry_of rs)) (desired h) sides (scaled h.least) (scaled h.most)))
 
   -- ---- the limits
-  same_policy : policy_on h ≡ Policy.Of (policy h)
+  same_policy : policy_on h ≡ Ok (policy h)
   unfolding policy_on policy_answer
   same_policy = ap (λ v. policy_by v (policy h)) (accepted (policy_checks (policy h)) (limits_good s ok))
 
-  same_constraints : constraints_on h ≡ Constraints.Of (constraints h)
+  same_constraints : constraints_on h ≡ Ok (constraints h)
   unfolding constraints_on constraints_answer
   same_constraints = ap (λ v. constraints_by v (constraints h)) (accepted (alteration_checks (record { 0 = scaled h.least }) (record { 0 = scaled h.most })) (alterations_good s ok))
 
   same_report : report s ≡ flat_map (plain_line h) rs ++ answer_line rs (plain_answer h rs)
   unfolding report lines_on
   same_report =
-      ap (λ v. by_verdict v (lines_by h rs (policy_on h) (constraints_on h))) ok ∙ ap (λ p. lines_by h rs p (constraints_on h)) same_policy ∙ ap (lines_by h rs (Policy.Of (policy h))) same_constraints
+      ap (λ v. by_verdict v (lines_by h rs (policy_on h) (constraints_on h))) ok ∙ ap (λ p. lines_by h rs p (constraints_on h)) same_policy ∙ ap (lines_by h rs (Ok (policy h))) same_constraints
       ∙ ap (λ l. l ++ answer_line rs (answer_on h rs (constraints h))) all_lines ∙ ap (λ a. flat_map (plain_line h) rs ++ answer_line rs a) same_answer
 
   pub reported : AsReported s

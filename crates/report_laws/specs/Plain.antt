@@ -1,5 +1,5 @@
 -- What is printed on an accepted sheet, without the refusals that do not occur there (01, 'Encounter sheet and its program').
-use Rattle.std.specs.Prelude.{◌≡◌, ◌⊎◌, ℕ, length}
+use Rattle.std.specs.Prelude.{◌≡◌, ◌⊎◌, ℕ, None, Err}
 use mathlib.Core.List.{List, ◌++◌, map, flat_map}
 use Rattle.elementary.specs.declared.error.Refusal.{Refusal}
 use Rattle.elementary.specs.declared.error.Refusal.TheVariants as Why
@@ -14,9 +14,8 @@ use Rattle.colregs.specs.Colregs.{ruling_of}
 use Rattle.ruling_laws.specs.Settled.{Settled}
 use Rattle.constraints.specs.declared.ManoeuvreConstraints.{ManoeuvreConstraints}
 use Rattle.constraints.specs.declared.PermittedSides.TheVariants.{Either}
-use Rattle.constraints.specs.declared.PerhapsRate.TheVariants as Rate
-use Rattle.rulings.specs.declared.RuledAnswer.{RuledAnswer}
-use Rattle.rulings.specs.declared.RuledAnswer.TheVariants as Ruled
+use Rattle.std.specs.declared.result.Result.{Result}
+use Rattle.rulings.specs.declared.RuledManoeuvre.{RuledManoeuvre}
 use Rattle.rulings.specs.Demand3.{OnAccepted}
 use Rattle.rulings.specs.Ruled.{situation_of, ruled}
 use Rattle.sheet_words.specs.Word.{words}
@@ -33,7 +32,7 @@ module _ (h : Header) where
   policy = record { cpa_limit = record { 0 = scaled h.cpa_limit }; tcpa_limit = record { secs = h.tcpa_limit; nanos = 0 } }
 
   abbrev pub constraints : ManoeuvreConstraints
-  constraints = record { sides = Either; least_alteration = record { 0 = scaled h.least }; most_alteration = record { 0 = scaled h.most }; rate_of_turn = Rate.Nothing }
+  constraints = record { sides = Either; least_alteration = record { 0 = scaled h.least }; most_alteration = record { 0 = scaled h.most }; rate_of_turn = None }
 
   abbrev pub desired : Distance
   desired = record { 0 = scaled h.desired }
@@ -51,7 +50,7 @@ module _ (h : Header) where
       contact_line row.id a (risk_of policy (nearest a)) (ruling_of standard (facts_of (situation_on row)))
 
   -- the ruled search's answer
-  abbrev pub plain_answer : List Row → RuledAnswer
+  abbrev pub plain_answer : List Row → Result RuledManoeuvre Refusal
   plain_answer rs = ruled (own_of h) (map entry_of rs) (visibility_of h.visibility) (wind_from h) desired constraints
 
 -- a line for each contact, in the sheet's order, then the ruled search's answer, which meets demand 3 and refuses with 5 or 13 only; with the wind, no contact on a known tack is left undetermined for own craft on one (R-1)
@@ -59,7 +58,7 @@ pub record Reported (s : List ℕ) (h : Header) (rs : List Row) : Type 0 where
   pub lines : report s ≡ flat_map (plain_line h) rs ++ answer_line rs (plain_answer h rs)
   pub demand : OnAccepted (own_of h) (map entry_of rs) (visibility_of h.visibility) (wind_from h) (desired h) (constraints h) (plain_answer h rs)
   pub settled : (r : Row) → Settled standard (situation_on h r)
-  pub refusals : (why : Refusal) → plain_answer h rs ≡ Ruled.Refused why → (why ≡ Why.NoTrialClears) ⊎ (why ≡ Why.NoSharedSide)
+  pub refusals : (why : Refusal) → plain_answer h rs ≡ Err why → (why ≡ Why.NoTrialClears) ⊎ (why ≡ Why.NoSharedSide)
 
 abbrev pub AsReported : List ℕ → Type 0
 AsReported s = Reported s (header_of (words s)) (rows_of (words s))

@@ -1,5 +1,5 @@
 -- The bearing drift, the closest approach and the bow crossing that an assessment names, and the risk (assessment.rs, `assess`), operation by operation.
-use Rattle.std.specs.Prelude.{cond, ℕ, Float}
+use Rattle.std.specs.Prelude.{cond, ℕ, Float, None, Some, Err, Ok}
 use Rattle.std.specs.Float.{binary64}
 use Rattle.std.specs.Float.Ieee.{lt, of_bits}
 use Rattle.std.specs.Float.Ieee.Scale.{finite}
@@ -11,16 +11,13 @@ use Rattle.motion.specs.declared.vessel.Components.{Components}
 use Rattle.arguments.specs.Check.{zero}
 use Rattle.relative_motion.specs.declared.approach.Cpa.{Cpa}
 use Rattle.relative_motion.specs.declared.approach.Approach.{Approach}
-use Rattle.relative_motion.specs.declared.approach.Approach.TheVariants as Approach
-use Rattle.bow.specs.declared.BowAnswer.{BowAnswer}
-use Rattle.bow.specs.declared.BowAnswer.TheVariants as BowAnswer
+use Rattle.std.specs.declared.option.Option.{Option}
+use Rattle.std.specs.declared.result.Result.{Result}
+use Rattle.elementary.specs.declared.error.Refusal.{Refusal}
+use Rattle.motion.specs.declared.units.Distance.{Distance}
 use Rattle.policy.specs.declared.CpaPolicy.{CpaPolicy}
 use Rattle.risk.specs.declared.CollisionRisk.{CollisionRisk}
 use Rattle.risk.specs.declared.CollisionRisk.TheVariants.{Opening, Passing, Developing, Dangerous}
-use Rattle.risk.specs.declared.PerhapsCpa.{PerhapsCpa}
-use Rattle.risk.specs.declared.PerhapsCpa.TheVariants as Cpas
-use Rattle.risk.specs.declared.PerhapsDistance.{PerhapsDistance}
-use Rattle.risk.specs.declared.PerhapsDistance.TheVariants as Distances
 
 -- 60
 abbrev pub sixty : Float
@@ -44,14 +41,14 @@ drift_of range position relative =
     let per_hour = drift_per_hour range position relative in
     record { 0 = cond (finite per_hour) (to_degrees per_hour ⊘ sixty) zero }
 
-abbrev pub nearest : Approach → PerhapsCpa
-nearest (Approach.Closing cpa) = Cpas.Of cpa
-nearest (Approach.Opening range) = Cpas.Nothing
-nearest (Approach.Stationary range) = Cpas.Nothing
+abbrev pub nearest : Approach → Option Cpa
+nearest (Approach.Closing cpa) = Some cpa
+nearest (Approach.Opening range) = None
+nearest (Approach.Stationary range) = None
 
-abbrev pub ahead_of : BowAnswer → PerhapsDistance
-ahead_of (BowAnswer.Of d) = Distances.Of d
-ahead_of (BowAnswer.Refused why) = Distances.Nothing
+abbrev pub ahead_of : Result Distance Refusal → Option Distance
+ahead_of (Ok d) = Some d
+ahead_of (Err why) = None
 
 -- a CPA equal to the limit isn't passing, a time equal to the limit isn't developing
 unfoldable pub risk_at : CpaPolicy → Cpa → CollisionRisk
@@ -59,6 +56,6 @@ risk_at policy cpa =
     cond (lt policy.cpa_limit.0 cpa.distance.0) Passing
     (cond (is_before policy.tcpa_limit cpa.time_to_go) Developing Dangerous)
 
-abbrev pub risk_of : CpaPolicy → PerhapsCpa → CollisionRisk
-risk_of policy Cpas.Nothing = Opening
-risk_of policy (Cpas.Of cpa) = risk_at policy cpa
+abbrev pub risk_of : CpaPolicy → Option Cpa → CollisionRisk
+risk_of policy None = Opening
+risk_of policy (Some cpa) = risk_at policy cpa

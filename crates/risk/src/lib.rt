@@ -5,14 +5,14 @@
 ghost use Rattle.std.specs.Prelude.{◌≡◌};
 ghost use Rattle.risk.specs.Risk as Spec;
 
-use bow::BowAnswer;
+use elementary::error::Refusal;
 use motion::units::{Distance, RateOfTurn};
 use motion::vessel::Components;
 use policy::CpaPolicy;
 use relative_motion::approach::{Approach, Cpa};
 
 // In the order of concern: the range opens or stays; the closest approach is outside the limit; inside it but late; inside both.
-#[derive(Clone, Copy)]
+#[derive(Clone, Copy, PartialEq, Eq, PartialOrd, Ord)]
 pub enum CollisionRisk {
     Opening,
     Passing,
@@ -20,30 +20,12 @@ pub enum CollisionRisk {
     Dangerous,
 }
 
-// What an assessment may lack: the closest approach and its distance, unless the range closes; the bow crossing.
-#[derive(Clone, Copy)]
-pub enum PerhapsCpa {
-    Nothing,
-    Of(Cpa),
-}
-
-#[derive(Clone, Copy)]
-pub enum PerhapsDistance {
-    Nothing,
-    Of(Distance),
-}
-
 impl CollisionRisk {
     // The place in the order of concern, 0 to 3.
     pub fn rank(self) -> u8
         ensures { result ≡ Spec.rank self }
     {
-        match self {
-            CollisionRisk::Opening => 0,
-            CollisionRisk::Passing => 1,
-            CollisionRisk::Developing => 2,
-            CollisionRisk::Dangerous => 3,
-        }
+        self as u8
     }
 }
 
@@ -70,49 +52,42 @@ pub fn drift_of(range: f64, offset: Components, relative: Components) -> RateOfT
 }
 
 // The closest approach, where the range closes.
-pub fn nearest(a: Approach) -> PerhapsCpa
+pub fn nearest(a: Approach) -> Option<Cpa>
     ensures { result ≡ Spec.nearest a }
 {
     match a {
-        Approach::Closing(cpa) => PerhapsCpa::Of(cpa),
-        Approach::Opening { current_range } => PerhapsCpa::Nothing,
-        Approach::Stationary { range } => PerhapsCpa::Nothing,
+        Approach::Closing(cpa) => Some(cpa),
+        Approach::Opening { current_range } => None,
+        Approach::Stationary { range } => None,
     }
 }
 
 // The range of a bow crossing, where there is one.
-pub fn ahead_of(answer: BowAnswer) -> PerhapsDistance
+pub fn ahead_of(answer: Result<Distance, Refusal>) -> Option<Distance>
     ensures { result ≡ Spec.ahead_of answer }
 {
-    match answer {
-        BowAnswer::Of(d) => PerhapsDistance::Of(d),
-        BowAnswer::Refused(why) => PerhapsDistance::Nothing,
-    }
+    answer.ok()
 }
 
 // The risk of a closest approach: outside the limit, inside it but later than the time limit, or inside both.
 pub fn risk_at(policy: CpaPolicy, cpa: Cpa) -> CollisionRisk
     ensures { result ≡ Spec.risk_at policy cpa }
 {
-    let limit = policy.cpa_limit();
-    let latest = policy.tcpa_limit();
-    let distance = cpa.distance;
-    let to_go = cpa.time_to_go;
-    if distance.0 > limit.0 {
+    if cpa.distance.0 > policy.cpa_limit().0 {
         return CollisionRisk::Passing;
     }
-    if latest.is_before(to_go) {
+    if policy.tcpa_limit().is_before(cpa.time_to_go) {
         return CollisionRisk::Developing;
     }
     CollisionRisk::Dangerous
 }
 
 // The risk, opening where there is no closest approach to come.
-pub fn risk_of(policy: CpaPolicy, p: PerhapsCpa) -> CollisionRisk
+pub fn risk_of(policy: CpaPolicy, p: Option<Cpa>) -> CollisionRisk
     ensures { result ≡ Spec.risk_of policy p }
 {
     match p {
-        PerhapsCpa::Nothing => CollisionRisk::Opening,
-        PerhapsCpa::Of(cpa) => risk_at(policy, cpa),
+        None => CollisionRisk::Opening,
+        Some(cpa) => risk_at(policy, cpa),
     }
 }

@@ -3,58 +3,36 @@ use mathlib.Core.Path.{◌≡◌, refl, sym, ap, ◌∙◌, subst}
 use mathlib.Core.Bool.{Bool, true, false, ◌&&◌, ◌||◌, beq, true≢false}
 use mathlib.Core.Logic.{◌⊎◌, inl, inr}
 use Prim.Native.Nat.{ℕ, zero, suc, ◌+◌, ◌*◌, ◌-◌, ◌^◌, ◌/◌, ◌%◌, ◌≤◌, ◌<◌}
-use native.Mathlib.Nat.{pow-succ', mul-le-mul, mul-le-mul_left, mul_assoc, mul-one, add_comm, zero-mul, lt_irrefl, mul-pos, zero-lt-suc}
+use native.Mathlib.Nat.{pow-succ', lt_of_lt_of_le, mod-eq_of_lt, mul-le-mul, mul-le-mul_left, mul-le-mul_right, mul_assoc, mul-one, add_comm, zero-mul, lt_irrefl, mul-pos, zero-lt-suc}
 use native.Mathlib.Omega.{arith}
 use lib.IntN.{pos}
-use lib.Dec.{T, eqb, lt→ltb, eqb→eq}
-use lib.Pow.{pow-add, pow_mono}
+use lib.Dec.{T, eqb, lt→ltb, eqb→eq, lit≤}
+use lib.Pow.{pow-add, pow_mono, pow_pos}
 use lib.Ieee.{Float, nan, inf, fin, binary64, fits, up, down, lt, eq, div, to_bits, of_bits}
 use lib.Ieee.Bits.{of_bits-fits}
 use lib.Ieee.Fits.{down_pos, up_pos, and_l, and_i, eq→eqb}
 use lib.Ieee.Scale.{finite}
+use Rattle.std.specs.Int.Count.{count_leading_zeros}
+use Rattle.std.proofs.lemmas.Nat.{leading_top}
 use Rattle.laws.specs.Units.{Units, sign}
 use Rattle.laws.proofs.Bools.{holds, fails}
 use Rattle.laws.proofs.Numbers.{le_by, lt_by}
 use Rattle.laws.proofs.Pattern.{pattern_of_digits, pattern_lt, normal_units, subnormal_units, units_above_zero}
 use Rattle.laws.proofs.Units.{finite_of_units}
-use Rattle.root.specs.Digits.{Remainder, Excess}
 use Rattle.root.specs.Root.{IsRoot, NearestRoot, isqrt}
 use Rattle.root.specs.Sqrt.{sqrt, Nearest, root_digits, root_pattern}
 use Rattle.root.proofs.NearestSqrt.{Parts, parts_ge, parts-le, nearest_of_parts, nearest_unique, sqrt_is}
 use Rattle.root.proofs.WholeRoots.{isqrt_is, nearest_root, nearest_root_unique}
 
--- ---- small_root: the step is 2 ^ left
-pub step_halved : (left step : ℕ) → 0 < left → step ≡ 2 ^ left → (step / 2 ≡ 2 ^ (left - 1)) × (step / 2 + step / 2 ≡ step)
-step_halved (suc g) step h e = (omega (arith, pow-succ' 2 g, ap (λ t. 2 ^ t) (sub g)), omega (arith, pow-succ' 2 g))
+-- ---- small_root: after i bits the step is 2 ^ (27 - i)
+pub step_halved : (i step : ℕ) → i < 27 → step ≡ 2 ^ (27 - i) → (step / 2 ≡ 2 ^ (27 - (i + 1))) × (step / 2 + step / 2 ≡ step)
+step_halved i step h e = go (27 - (i + 1)) (e ∙ ap (λ t. 2 ^ t) (next i h))
   where
-    sub : (g : ℕ) → suc g - 1 ≡ g
-    sub g = omega arith
-step_halved zero step h e = elim h [ ]
+    next : (i : ℕ) → i < 27 → 27 - i ≡ suc (27 - (i + 1))
+    next i h = omega arith
 
-pub square-small : (t : ℕ) → t ≤ 2 ^ 27 → t * t ≤ 2 ^ 54
-square-small t h = mul-le-mul h h
-
-pub root_at_end : (left low step d : ℕ) → left ≤ 0 → step ≡ 2 ^ left → low * low ≤ d → d < (low + step) * (low + step) → IsRoot d low
-root_at_end zero low step d h e p q = record { at_most = p; above = subst (λ t. d < (low + t) * (low + t)) e q }
-root_at_end (suc left) low step d h e p q = absurd (never left h)
-  where
-    never : (left : ℕ) → suc left ≤ 0 → ⊥
-    never left h = omega arith
-
-pub root_few : (d r : ℕ) → d < 2 ^ 54 → IsRoot d r → r < 2 ^ 27
-root_few d r h x = lt_by (λ k. never (mul-le-mul k k) x.at_most)
-  where
-    never : 2 ^ 27 * 2 ^ 27 ≤ r * r → r * r ≤ d → ⊥
-    never a b = omega arith
-
-pub remainder : (d r : ℕ) → IsRoot d r → Remainder d r (d - r * r)
-remainder d r x = record { sum = sum x.at_most; small = small x.above }
-  where
-    sum : r * r ≤ d → r * r + (d - r * r) ≡ d
-    sum h = omega arith
-
-    small : d < (r + 1) * (r + 1) → d - r * r ≤ 2 * r
-    small h = omega arith
+    go : (g : ℕ) → step ≡ 2 ^ suc g → (step / 2 ≡ 2 ^ g) × (step / 2 + step / 2 ≡ step)
+    go g e = (omega (arith, pow-succ' 2 g), omega (arith, pow-succ' 2 g))
 
 -- ---- root_by_digits
 fourfold : (d : ℕ) → 4 * (d * 2 ^ 52) ≡ d * 2 ^ 54
@@ -69,15 +47,38 @@ long_root_few d r h x = le_by (λ k. never (mul-le-mul k k) x.at_most)
 pub nearest_of_long : (d r : ℕ) → 0 < d → IsRoot (d * 2 ^ 54) r → NearestRoot (d * 2 ^ 52) ((r + 1) / 2)
 nearest_of_long d r h x = nearest_root (d * 2 ^ 52) r (omega arith) (subst (λ n. IsRoot n r) (sym (fourfold d)) x)
 
--- ---- normalise
-pub one_place_more : (m t s : ℕ) → m ≡ t * 2 ^ s → m * 2 ≡ t * 2 ^ (s + 1)
-one_place_more m t s e = ap (λ k. k * 2) e ∙ mul_assoc t (2 ^ s) 2 ∙ ap (λ k. t * k) (sym (pow-add 2 s 1))
+-- ---- subnormal: t of j + 1 digits is moved up by 52 - j places
+pub record Moved (t p : ℕ) : Type 0 where
+  pub places : p ≤ 52
+  pub leading : 2 ^ 52 ≤ t * 2 ^ p
+  pub digits : t * 2 ^ p < 2 ^ 53
+  pub held : t * 2 ^ p % 2 ^ 64 ≡ t * 2 ^ p
 
-pub few-places : (m t s : ℕ) → 0 < t → m ≡ t * 2 ^ s → m < 2 ^ 52 → s < 52
-few-places m t s h e k = lt_by (λ g. never (pow_mono g))
+pub moved_up : (t : ℕ) → 0 < t → t < 2 ^ 52 → (11 ≤ count_leading_zeros 64 t) × Moved t (count_leading_zeros 64 t - 11)
+moved_up t h k = go (leading_top 64 t h (lt_of_lt_of_le k (lit≤ tt)))
   where
-    never : 2 ^ 52 ≤ 2 ^ s → ⊥
-    never g = omega (arith, mul-le-mul h g)
+    go : {z : ℕ} → ((j : ℕ) × (z + suc j ≡ 64) × (2 ^ j ≤ t) × (t < 2 ^ suc j)) → (11 ≤ z) × Moved t (z - 11)
+    go {z} (j, s, a, b) = let few : j < 52 = lt_by (λ g. never (pow_mono g) a) in (omega arith, at (z - 11) (omega arith))
+      where
+        never : 2 ^ 52 ≤ 2 ^ j → 2 ^ j ≤ t → ⊥
+        never g a = omega arith
+
+        at : (p : ℕ) → j + p ≡ 52 → Moved t p
+        at p f = let e : 2 ^ j * 2 ^ p ≡ 2 ^ 52 = sym (pow-add 2 j p) ∙ ap (λ i. 2 ^ i) f in
+            let d : t * 2 ^ p < 2 ^ 53 = below (2 ^ j) (2 ^ p) (omega (arith, b, pow-succ' 2 j)) (pow_pos p) e in
+            record { places = omega arith; leading = above (2 ^ j) (2 ^ p) a e; digits = d; held = mod-eq_of_lt (lt_of_lt_of_le d (lit≤ tt)) }
+          where
+            above : (a b : ℕ) → a ≤ t → a * b ≡ 2 ^ 52 → 2 ^ 52 ≤ t * b
+            above a b h e = omega (arith, mul-le-mul_right b h)
+
+            below : (a b : ℕ) → t + 1 ≤ 2 * a → 0 < b → a * b ≡ 2 ^ 52 → t * b < 2 ^ 53
+            below a b h k e = omega (arith, mul-le-mul_right b h)
+
+pub moved_back : (t p : ℕ) → p ≤ 52 → t * 2 ^ 1074 ≡ t * 2 ^ p * 2 ^ (1074 - p)
+moved_back t p h = ap (λ i. t * 2 ^ i) (both p h) ∙ ap (λ n. t * n) (pow-add 2 p (1074 - p)) ∙ sym (mul_assoc t (2 ^ p) (2 ^ (1074 - p)))
+  where
+    both : (p : ℕ) → p ≤ 52 → 1074 ≡ p + (1074 - p)
+    both p h = omega arith
 
 -- ---- excess: r * r by halves of 26 bits is high * 2 ^ 52 + low
 pub record Squares (r : ℕ) : Type 0 where
@@ -107,23 +108,8 @@ excess_is d r p =
     go : (s t w g : ℕ) → g + d ≡ s + 4 → w ≡ s * 2 ^ 52 + t → g * 4503599627370496 + t + d * 2 ^ 52 ≡ w + 2 ^ 54
     go s t w g e f = omega arith
 
-pub nothing : (d r : ℕ) → Excess d r 0
-nothing d r = record { is = λ h. absurd (lt_irrefl 0 h); few = omega arith }
-
 -- ---- which number is nearest, by the excess x of r
 module _ (n r x : ℕ) (e : x + n ≡ r * r + 2 ^ 54) where
-  pub itself : 2 ^ 54 ≤ x + r → x < 2 ^ 54 + r → NearestRoot n r
-  itself h k = record { low = low (r * r) e k; high = high (r * r) e h }
-    where
-      low : (s : ℕ) → x + n ≡ s + 2 ^ 54 → x < 2 ^ 54 + r → s < n + r
-      low s e k = omega arith
-
-      high : (s : ℕ) → x + n ≡ s + 2 ^ 54 → 2 ^ 54 ≤ x + r → n ≤ s + r
-      high s e h = omega arith
-
-  pub after : x + r < 2 ^ 54 → 2 ^ 54 ≤ x + 3 * r + 2 → NearestRoot n (r + 1)
-  after h k = record { low = omega arith; high = omega arith }
-
   pub before : 0 < r → 2 ^ 54 + r ≤ x → x + 2 < 2 ^ 54 + 3 * r → NearestRoot n (r - 1)
   before p h k = go r p e h k
     where
@@ -277,16 +263,10 @@ module _ (x : Float) (t : T (fits binary64 x)) (p : lt (fin false 0 (pos 0)) x �
       go : (b : ℕ) → 0 < b % 2 ^ 52 * 2 ^ 0 → (0 < b % 2 ^ 52) × (b % 2 ^ 52 < 2 ^ 52)
       go b h = (omega arith, omega arith)
 
-  pub subnormal_root : (m s q : ℕ) → field ≡ 0 → m ≡ digits * 2 ^ s → 2 ^ 52 ≤ m → m < 2 ^ 53 → s ≤ 52 → q ≡ root_pattern m (1074 - s) → of_bits binary64 q ≡ sqrt x
-  subnormal_root m s q e f ge l h k =
+  pub subnormal_root : (m j q : ℕ) → field ≡ 0 → digits * 2 ^ 1074 ≡ m * 2 ^ j → 2 ^ 52 ≤ m → m < 2 ^ 53 → 52 ≤ j → j ≤ 3119 → q ≡ root_pattern m j → of_bits binary64 q ≡ sqrt x
+  subnormal_root m j q e f ge l h i k =
       let v = subnormal_units x t e in
-      ap (λ z. of_bits binary64 z) k ∙ root_is m (1074 - s) ge l x (digits * 2 ^ 0) t v (units_above_zero x (digits * 2 ^ 0) p v) scale (omega arith) (omega arith)
-    where
-      scale : digits * 2 ^ 0 * 2 ^ 1074 ≡ m * 2 ^ (1074 - s)
-      scale = ap (λ z. z * 2 ^ 1074) (mul-one digits) ∙ ap (λ z. digits * 2 ^ z) (both s h) ∙ ap (λ z. digits * z) (pow-add 2 s (1074 - s)) ∙ sym (mul_assoc digits (2 ^ s) (2 ^ (1074 - s))) ∙ ap (λ z. z * 2 ^ (1074 - s)) (sym f)
-        where
-          both : (s : ℕ) → s ≤ 52 → 1074 ≡ s + (1074 - s)
-          both s h = omega arith
+      ap (λ z. of_bits binary64 z) k ∙ root_is m j ge l x (digits * 2 ^ 0) t v (units_above_zero x (digits * 2 ^ 0) p v) (ap (λ z. z * 2 ^ 1074) (mul-one digits) ∙ f) h i
 
   pub normal_root : (q : ℕ) → ¬ (field ≡ 2047) → ¬ (field ≡ 0) → q ≡ root_pattern (digits + 2 ^ 52) (field + 1073) → of_bits binary64 q ≡ sqrt x
   normal_root q n z k = go field digits refl refl z (field_le n) k

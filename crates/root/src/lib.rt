@@ -5,14 +5,13 @@
 // is the nearest, or the number after or before it is, and if none is the root is found digit by digit.
 #![tactic(auto)]
 
-ghost use Rattle.std.specs.Prelude.{◌≡◌, ◌+◌, ◌*◌, ◌^◌, ◌≤◌, ◌<◌};
+ghost use Rattle.std.specs.Prelude.{◌≡◌, ◌+◌, ◌*◌, ◌%◌, ◌^◌, ◌≤◌, ◌<◌};
 ghost use Rattle.root.specs.Digits.{Remainder, Excess};
 ghost use Rattle.root.specs.Root.{IsRoot, NearestRoot};
 ghost use Rattle.root.specs.Sqrt.{root_pattern, sqrt as sqrtOf};
 ghost use Rattle.root.specs.Hypot.{hypot_ordered, hypot as hypotOf};
 
-// 2^52: the weight of the leading digit of a normal f64, and of the exponent's field in its pattern.
-const LEADING: u64 = 4503599627370496;
+use math::LEADING;
 
 // The half of a 53-digit number: 2^26.
 const HALF: u64 = 67108864;
@@ -32,9 +31,7 @@ fn small_root(d: u64) -> u64
 {
     let mut low: u64 = 0;
     let mut step: u64 = 134217728;
-    let mut left: u64 = 27;
-    while 0 < left {
-        left -= 1;
+    for _ in 0..27u64 {
         step = step / 2;
         let middle = low + step;
         if middle * middle <= d {
@@ -51,11 +48,7 @@ fn more_digits(d: u64, root0: u64, rest0: u64) -> u64
 {
     let mut root = root0;
     let mut rest = rest0;
-    let mut limit: u64 = 134217728;
-    let mut left: u64 = 27;
-    while 0 < left {
-        left -= 1;
-        limit = limit * 2;
+    for _ in 0..27u64 {
         let next = root * 4 + 1;
         root = root * 2;
         rest = rest * 4;
@@ -77,52 +70,80 @@ fn root_by_digits(d: u64) -> u64
     (r + 1) / 2
 }
 
-// A number with its leading digit moved up to the place 2^52, and by how many places.
+// A number above 0: m * 2^j / 2^2148, the leading digit of m at the place 2^52.
 #[derive(Clone, Copy)]
-struct Normalised {
+struct Scaled {
     m: u64,
-    places: u64,
+    j: u64,
+    ghost leading: { 2 ^ 52 ≤ m },
+    ghost digits: { m < 2 ^ 53 },
+    ghost least: { 52 ≤ j },
+    ghost most: { j ≤ 3119 },
 }
 
-fn normalise(t: u64) -> Normalised
-    requires { (0 < t) × (t < 2 ^ 52) }
-    ensures { (result.m ≡ t * 2 ^ result.places) × (2 ^ 52 ≤ result.m) × (result.m < 2 ^ 53) × (result.places ≤ 52) }
-{
-    let mut m = t;
-    let mut places: u64 = 0;
-    while m < LEADING {
-        m = m * 2;
-        places += 1;
+impl Scaled {
+    // t units of 2^-1074, fewer than the normal numbers have.
+    fn subnormal(t: u64) -> Scaled
+        requires { (0 < t) × (t < 2 ^ 52) }
+        ensures { t * 2 ^ 1074 ≡ result.m * 2 ^ result.j }
+    {
+        let places = t.leading_zeros() as u64 - 11;
+        Scaled {
+            m: t << places,
+            j: 1074 - places,
+        }
     }
-    Normalised {
-        m: m,
-        places: places,
-    }
-}
 
-// About 2^52 times the root of f = m * (1 + odd) / 2^52. Beside the root s goes half its inverse, h: from first values by the bit pattern, good to
-// 1 part in 29, by a quadratic polynomial, a step of Newton's method and a correction. Nothing is promised of it but its 53 digits.
-fn guess(m: u64, odd: u64) -> u64
-    requires { (2 ^ 52 ≤ m) × (m < 2 ^ 53) × (odd ≤ 1) }
-    ensures { (2 ^ 52 ≤ result) × (result < 2 ^ 53) }
-{
-    let pattern = (1022 + odd) * LEADING + m;
-    let f = f64::from_bits(pattern);
-    let y = f64::from_bits(6910469410427058089 - pattern / 2);
-    let s0 = f * y;
-    let h0 = 0.5 * y;
-    let t = s0 * y;
-    let p = 1.876594766976193 - 1.2520933041327758 * t + 0.37549875440821373 * (t * t);
-    let s1 = s0 * p;
-    let h1 = h0 * p;
-    let q = 1.5 - s1 * h1;
-    let s2 = s1 * q;
-    let h2 = h1 * q;
-    let g = s2 + h2 * (f - s2 * s2);
-    if g == g {
-        return f64::to_bits(g) % LEADING + LEADING;
+    // About 2^52 times the root of f = m * (1 + j % 2) / 2^52. Beside the root s goes half its
+    // inverse, h: from first values by the bit pattern, good to 1 part in 29, by a quadratic
+    // polynomial, a step of Newton's method and a correction. Nothing is promised of it but its
+    // 53 digits.
+    fn guess(self) -> u64
+        ensures { (2 ^ 52 ≤ result) × (result < 2 ^ 53) }
+    {
+        let pattern = (1022 + self.j % 2) * LEADING + self.m;
+        let f = f64::from_bits(pattern);
+        let y = f64::from_bits(6910469410427058089 - pattern / 2);
+        let s0 = f * y;
+        let h0 = 0.5 * y;
+        let t = s0 * y;
+        let p = 1.876594766976193 - 1.2520933041327758 * t + 0.37549875440821373 * (t * t);
+        let s1 = s0 * p;
+        let h1 = h0 * p;
+        let q = 1.5 - s1 * h1;
+        let s2 = s1 * q;
+        let h2 = h1 * q;
+        let g = s2 + h2 * (f - s2 * s2);
+        if g == g {
+            return f64::to_bits(g) % LEADING + LEADING;
+        }
+        LEADING
     }
-    LEADING
+
+    // The whole number nearest to the root of d * 2^52, for d = m or 2 m.
+    fn nearest_root(self) -> u64
+        ensures { NearestRoot (self.m * (1 + self.j % 2) * 2 ^ 52) result }
+    {
+        let d = self.m * (1 + self.j % 2);
+        let r = self.guess();
+        let x = excess(d, r);
+        let trial = Trial { d, r, x };
+        if x + r < MIDDLE {
+            return trial.one_more();
+        }
+        if x < MIDDLE + r {
+            return r;
+        }
+        trial.one_less()
+    }
+
+    // The bit pattern of the root.
+    fn root_pattern(self) -> u64
+        ensures { (result ≡ root_pattern self.m self.j) × (result < 2047 * 2 ^ 52) }
+    {
+        let r = self.nearest_root();
+        (self.j - 52) / 2 * LEADING + r
+    }
 }
 
 // By how much r * r exceeds d * 2^52, plus 2^54; or 0 where it is far from it. r * r by halves of 26 bits is high * 2^52 + low.
@@ -144,54 +165,45 @@ fn excess(d: u64, r: u64) -> u64
     (high + 4 - d) * LEADING + low
 }
 
-// Where r is too small: the number after it, or the root by its digits.
-fn one_more(d: u64, r: u64, x: u64) -> u64
-    requires { (0 < d) × (d < 2 ^ 54) × (r ≤ 2 ^ 53) × Excess d r x × (x + r < 2 ^ 54) }
-    ensures { NearestRoot (d * 2 ^ 52) result }
-{
-    if 0 < x {
-        if MIDDLE <= x + 3 * r + 2 {
-            return r + 1;
+// r tried as the root of d * 2^52, with the excess x of its square.
+#[derive(Clone, Copy)]
+struct Trial {
+    d: u64,
+    r: u64,
+    x: u64,
+    ghost some: { 0 < d },
+    ghost few: { d < 2 ^ 54 },
+    ghost positive: { 0 < r },
+    ghost short: { r ≤ 2 ^ 53 },
+    ghost excess: { Excess d r x },
+}
+
+impl Trial {
+    // Where r is too small: the number after it, or the root by its digits.
+    fn one_more(self) -> u64
+        requires { self.x + self.r < 2 ^ 54 }
+        ensures { NearestRoot (self.d * 2 ^ 52) result }
+    {
+        let Trial { d, r, x } = self;
+        if 0 < x {
+            if MIDDLE <= x + 3 * r + 2 {
+                return r + 1;
+            }
         }
+        root_by_digits(d)
     }
-    root_by_digits(d)
-}
 
-// Where r is too large: the number before it, or the root by its digits.
-fn one_less(d: u64, r: u64, x: u64) -> u64
-    requires { (0 < d) × (d < 2 ^ 54) × (0 < r) × (r ≤ 2 ^ 53) × Excess d r x × (2 ^ 54 + r ≤ x) }
-    ensures { NearestRoot (d * 2 ^ 52) result }
-{
-    if x + 2 < MIDDLE + 3 * r {
-        return r - 1;
+    // Where r is too large: the number before it, or the root by its digits.
+    fn one_less(self) -> u64
+        requires { 2 ^ 54 + self.r ≤ self.x }
+        ensures { NearestRoot (self.d * 2 ^ 52) result }
+    {
+        let Trial { d, r, x } = self;
+        if x + 2 < MIDDLE + 3 * r {
+            return r - 1;
+        }
+        root_by_digits(d)
     }
-    root_by_digits(d)
-}
-
-// The whole number nearest to the root of d * 2^52, for d = m or 2 m.
-fn nearest_root(m: u64, odd: u64) -> u64
-    requires { (2 ^ 52 ≤ m) × (m < 2 ^ 53) × (odd ≤ 1) }
-    ensures { NearestRoot (m * (1 + odd) * 2 ^ 52) result }
-{
-    let d = m * (1 + odd);
-    let r = guess(m, odd);
-    let x = excess(d, r);
-    if x + r < MIDDLE {
-        return one_more(d, r, x);
-    }
-    if x < MIDDLE + r {
-        return r;
-    }
-    one_less(d, r, x)
-}
-
-// The bit pattern of the root of m * 2^j / 2^2148.
-fn root_pattern(m: u64, j: u64) -> u64
-    requires { (2 ^ 52 ≤ m) × (m < 2 ^ 53) × (52 ≤ j) × (j ≤ 3119) }
-    ensures { (result ≡ root_pattern m j) × (result < 2047 * 2 ^ 52) }
-{
-    let r = nearest_root(m, j % 2);
-    (j - 52) / 2 * LEADING + r
 }
 
 // The square root, rounded to the nearest f64: -0 and plus infinity stay, negative numbers and NaN give NaN.
@@ -206,11 +218,15 @@ pub fn sqrt(x: f64) -> f64
             return x;
         }
         if field == 0 {
-            let n = normalise(digits);
-            let q = root_pattern(n.m, 1074 - n.places);
+            let n = Scaled::subnormal(digits);
+            let q = n.root_pattern();
             return f64::from_bits(q);
         }
-        let q = root_pattern(digits + LEADING, field + 1073);
+        let n = Scaled {
+            m: digits + LEADING,
+            j: field + 1073,
+        };
+        let q = n.root_pattern();
         return f64::from_bits(q);
     }
     if x == 0.0 {

@@ -1,7 +1,8 @@
 -- What the code of the ruled search owes: the checks in their order, what is said of a chosen trial, and the search by offsets and velocities.
+use Rattle.std.specs.Prelude.{None, Some, Err, Ok}
 use mathlib.Core.Path.{◌≡◌, sym, ap, ◌∙◌, subst}
 use mathlib.Core.Bool.{Bool, true, false, cond, ◌||◌}
-use mathlib.Core.List.{List, ◌++◌, map}
+use mathlib.Core.List.{List, map}
 use Prim.Native.Nat.{ℕ}
 use lib.Ieee.{Float}
 use Rattle.elementary.specs.declared.error.Refusal.{Refusal}
@@ -9,103 +10,82 @@ use Rattle.elementary.specs.declared.error.Refusal.TheVariants as Why
 use Rattle.motion.specs.declared.units.Distance.{Distance}
 use Rattle.motion.specs.declared.units.Direction.{Direction}
 use Rattle.motion.specs.declared.vessel.Vessel.{Vessel}
-use Rattle.arguments.specs.declared.Verdict.{Verdict}
-use Rattle.arguments.specs.declared.Verdict.TheVariants as Verdict
-use Rattle.arguments.specs.Check.{verdict, distance_checks}
-use Rattle.arguments.proofs.Checks.{verdict_joined}
+use Rattle.std.specs.declared.option.Option.{Option}
+use Rattle.std.specs.declared.result.Result.{Result}
+use Rattle.motion.specs.declared.units.RateOfTurn.{RateOfTurn}
+use Rattle.time.specs.declared.Duration.{Duration}
+use Rattle.arguments.specs.Check.{verdict}
 use Rattle.situation.specs.declared.party.Party.{Party}
-use Rattle.situation.specs.declared.party.Perhaps.{Perhaps}
 use Rattle.situation.specs.declared.party.Visibility.{Visibility}
-use Rattle.situation.specs.Arguments.{perhaps_checks, party_checks}
-use Rattle.manoeuvre.specs.declared.TurnTime.{TurnTime}
-use Rattle.constraints.specs.declared.PerhapsRate.{PerhapsRate}
 use Rattle.constraints.specs.declared.ManoeuvreConstraints.{ManoeuvreConstraints}
-use Rattle.constraints.specs.Constraints.{constraint_checks}
 use Rattle.manoeuvre.specs.Manoeuvre.{turn_time}
 use Rattle.passages.specs.declared.Moving.{Moving}
 use Rattle.clearing.specs.Clearing.{altered, floor_of, moving}
 use Rattle.choice.specs.declared.Sides.{Sides}
 use Rattle.choice.specs.declared.Chosen.{Chosen}
-use Rattle.choice.specs.declared.Choice.{Choice}
-use Rattle.choice.specs.declared.Choice.TheVariants as Choice
 use Rattle.choice.specs.Choice.{signed, smallest}
 use Rattle.choice_laws.proofs.Searched.{smallest_is}
 use Rattle.traffic.specs.declared.Entry.{Entry}
-use Rattle.traffic.specs.Traffic.{target_of, count_checks, contacts_checks}
+use Rattle.traffic.specs.Traffic.{target_of}
 use Rattle.rulings.specs.declared.RuledManoeuvre.{RuledManoeuvre}
-use Rattle.rulings.specs.declared.RuledAnswer.{RuledAnswer}
-use Rattle.rulings.specs.declared.RuledAnswer.TheVariants.{Of, Refused}
 use Rattle.rulings.specs.Ruled.{shared_sides, ruled_checks, manoeuvre_of, chosen_answer, answered, ruled, ruled_as, ruled_by, ruled_answer}
 use Rattle.rulings.specs.Demand3.{Demand3}
 use Rattle.ruled_laws.specs.Held.{HeldArguments}
 use Rattle.ruled_laws.proofs.Accepted as Accepted
 use Rattle.ruled_laws.proofs.Demanded.{demanded}
 
--- ---- the checks, from the last to the first
-pub checked : (own : Party) (count : ℕ) (entries : List Entry) (wind : Perhaps) (desired : Distance) (c : ManoeuvreConstraints) (v1 v2 v3 v4 v5 v6 : Verdict)
-    → v1 ≡ verdict (constraint_checks c) Verdict.Accepted → v2 ≡ verdict (distance_checks desired) v1 → v3 ≡ verdict (perhaps_checks wind) v2 → v4 ≡ verdict (contacts_checks entries) v3 → v5 ≡ verdict (party_checks own) v4 → v6 ≡ verdict (count_checks count) v5
-    → v6 ≡ verdict (ruled_checks own count entries wind desired c) Verdict.Accepted
-unfolding ruled_checks
-checked own count entries wind desired c v1 v2 v3 v4 v5 v6 e1 e2 e3 e4 e5 e6 =
-    e6 ∙ ap (verdict (count_checks count)) (e5 ∙ ap (verdict (party_checks own)) (e4 ∙ ap (verdict (contacts_checks entries)) (e3 ∙ ap (verdict (perhaps_checks wind)) (e2 ∙ ap (verdict (distance_checks desired)) e1
-    ∙ sym (verdict_joined (distance_checks desired) (constraint_checks c) Verdict.Accepted))
-    ∙ sym (verdict_joined (perhaps_checks wind) (distance_checks desired ++ constraint_checks c) Verdict.Accepted))
-    ∙ sym (verdict_joined (contacts_checks entries) (perhaps_checks wind ++ (distance_checks desired ++ constraint_checks c)) Verdict.Accepted))
-    ∙ sym (verdict_joined (party_checks own) (contacts_checks entries ++ (perhaps_checks wind ++ (distance_checks desired ++ constraint_checks c))) Verdict.Accepted))
-    ∙ sym (verdict_joined (count_checks count) (party_checks own ++ (contacts_checks entries ++ (perhaps_checks wind ++ (distance_checks desired ++ constraint_checks c)))) Verdict.Accepted)
-
 -- ---- a chosen trial
 module _ (own : Vessel) (c : ManoeuvreConstraints) where
-  pub said : (x : Chosen) (a : Float) (v : Vessel) (rate : PerhapsRate) (time : TurnTime) → a ≡ signed x.side x.magnitude.0 → v ≡ altered own a → rate ≡ c.rate_of_turn → time ≡ turn_time x.magnitude.0 rate
+  pub said : (x : Chosen) (a : Float) (v : Vessel) (rate : Option RateOfTurn) (time : Option Duration) → a ≡ signed x.side x.magnitude.0 → v ≡ altered own a → rate ≡ c.rate_of_turn → time ≡ turn_time x.magnitude.0 rate
       → ◌≡◌ {A = RuledManoeuvre} (record { side = x.side; magnitude = x.magnitude; course = v.course; turn_time = time; passing = x.passing.distance; limiting = x.passing.limiting }) (manoeuvre_of own c x)
   said x a v rate time ea ev er et = ap (λ d. make d time) (ap (λ v. v.course) (ev ∙ ap (altered own) ea)) ∙ ap (make (altered own (signed x.side x.magnitude.0)).course) (et ∙ ap (turn_time x.magnitude.0) er)
     where
-      make : Direction → TurnTime → RuledManoeuvre
+      make : Direction → Option Duration → RuledManoeuvre
       make d time = record { side = x.side; magnitude = x.magnitude; course = d; turn_time = time; passing = x.passing.distance; limiting = x.passing.limiting }
 
-  pub no_trial : (choice : Choice) → choice ≡ Choice.Nothing → Refused Why.NoTrialClears ≡ chosen_answer own c choice
+  pub no_trial : (choice : Option Chosen) → choice ≡ None → Err Why.NoTrialClears ≡ chosen_answer own c choice
   no_trial choice e = ap (chosen_answer own c) (sym e)
 
-  pub a_trial : (choice : Choice) (x : Chosen) (m : RuledManoeuvre) → choice ≡ Choice.Of x → m ≡ manoeuvre_of own c x → Of m ≡ chosen_answer own c choice
-  a_trial choice x m e em = ap Of em ∙ ap (chosen_answer own c) (sym e)
+  pub a_trial : (choice : Option Chosen) (x : Chosen) (m : RuledManoeuvre) → choice ≡ Some x → m ≡ manoeuvre_of own c x → Ok m ≡ chosen_answer own c choice
+  a_trial choice x m e em = ap Ok em ∙ ap (chosen_answer own c) (sym e)
 
 -- ---- the search, with the sides that the rulings share
-module _ (own : Party) (entries : List Entry) (visibility : Visibility) (wind : Perhaps) (desired : Distance) (c : ManoeuvreConstraints) (sides : Sides) (is : sides ≡ shared_sides own visibility wind entries) where
-  abbrev found : Sides → Choice
+module _ (own : Party) (entries : List Entry) (visibility : Visibility) (wind : Option Direction) (desired : Distance) (c : ManoeuvreConstraints) (sides : Sides) (is : sides ≡ shared_sides own visibility wind entries) where
+  abbrev found : Sides → Option Chosen
   found s = smallest own.motion (floor_of desired) (map moving (map target_of entries)) s c.least_alteration.0 c.most_alteration.0
 
-  by : (b : Bool) → sides.starboard || sides.port ≡ b → cond b (chosen_answer own.motion c (found sides)) (Refused Why.NoSharedSide) ≡ ruled_as own entries visibility wind desired c
+  by : (b : Bool) → sides.starboard || sides.port ≡ b → cond b (chosen_answer own.motion c (found sides)) (Err Why.NoSharedSide) ≡ ruled_as own entries visibility wind desired c
   unfolding ruled_as answered
-  by b h = ap (λ b. cond b (chosen_answer own.motion c (found sides)) (Refused Why.NoSharedSide)) (sym h) ∙ ap (λ s. answered own.motion c s (found s)) is
+  by b h = ap (λ b. cond b (chosen_answer own.motion c (found sides)) (Err Why.NoSharedSide)) (sym h) ∙ ap (λ s. answered own.motion c s (found s)) is
 
-  pub no_side : sides.starboard || sides.port ≡ false → Refused Why.NoSharedSide ≡ ruled_as own entries visibility wind desired c
+  pub no_side : sides.starboard || sides.port ≡ false → Err Why.NoSharedSide ≡ ruled_as own entries visibility wind desired c
   no_side h = by false h
 
-  pub searched : sides.starboard || sides.port ≡ true → (scene : List Moving) (choice : Choice) (r : RuledAnswer) (least most : Float) → least ≡ c.least_alteration.0 → most ≡ c.most_alteration.0 → scene ≡ map moving (map target_of entries)
+  pub searched : sides.starboard || sides.port ≡ true → (scene : List Moving) (choice : Option Chosen) (r : Result RuledManoeuvre Refusal) (least most : Float) → least ≡ c.least_alteration.0 → most ≡ c.most_alteration.0 → scene ≡ map moving (map target_of entries)
       → choice ≡ smallest own.motion (floor_of desired) scene sides least most → r ≡ chosen_answer own.motion c choice → r ≡ ruled_as own entries visibility wind desired c
   searched h scene choice r least most el em es ec er =
       er ∙ ap (chosen_answer own.motion c) (ec ∙ ap (λ l. smallest own.motion (floor_of desired) scene sides l most) el ∙ ap (λ m. smallest own.motion (floor_of desired) scene sides c.least_alteration.0 m) em ∙ ap (λ s. smallest own.motion (floor_of desired) s sides c.least_alteration.0 c.most_alteration.0) es)
       ∙ by true h
 
 -- ---- the answer
-module _ (own : Party) (count : ℕ) (entries : List Entry) (visibility : Visibility) (wind : Perhaps) (desired : Distance) (c : ManoeuvreConstraints) (k : HeldArguments own entries c) (w : Verdict) (is : w ≡ verdict (ruled_checks own count entries wind desired c) Verdict.Accepted) where
-  of : (u : Verdict) → w ≡ u → ruled_by u (ruled own entries visibility wind desired c) ≡ ruled_answer own count entries visibility wind desired c
+module _ (own : Party) (count : ℕ) (entries : List Entry) (visibility : Visibility) (wind : Option Direction) (desired : Distance) (c : ManoeuvreConstraints) (k : HeldArguments own entries c) (w : Result (Unit {0}) Refusal) (is : w ≡ verdict (ruled_checks own count entries wind desired c) (Ok tt)) where
+  of : (u : Result (Unit {0}) Refusal) → w ≡ u → ruled_by u (ruled own entries visibility wind desired c) ≡ ruled_answer own count entries visibility wind desired c
   unfolding ruled_answer
   of u e = ap (λ v. ruled_by v (ruled own entries visibility wind desired c)) (sym e ∙ is)
 
   -- on accepted arguments what is computed is what is defined
-  same : w ≡ Verdict.Accepted → ruled_as own entries visibility wind desired c ≡ ruled own entries visibility wind desired c
+  same : w ≡ (Ok tt) → ruled_as own entries visibility wind desired c ≡ ruled own entries visibility wind desired c
   unfolding ruled_as ruled
   same e =
       let h = sym is ∙ e in
       ap (answered own.motion c (shared_sides own visibility wind entries))
       (smallest_is own.motion (map target_of entries) desired (Accepted.own_fit own count entries wind desired c h k) (Accepted.targets_fit own count entries wind desired c h k) (shared_sides own visibility wind entries) c.least_alteration.0 c.most_alteration.0 (Accepted.limits own count entries wind desired c h k))
 
-  promised : (r : RuledAnswer) → r ≡ ruled_answer own count entries visibility wind desired c → (r ≡ ruled_answer own count entries visibility wind desired c) × Demand3 own entries visibility wind desired c count r
+  promised : (r : Result RuledManoeuvre Refusal) → r ≡ ruled_answer own count entries visibility wind desired c → (r ≡ ruled_answer own count entries visibility wind desired c) × Demand3 own entries visibility wind desired c count r
   promised r e = (e, subst (Demand3 own entries visibility wind desired c count) (sym e) (demanded own count entries visibility wind desired c k))
 
-  pub accepted : w ≡ Verdict.Accepted → (r : RuledAnswer) → r ≡ ruled_as own entries visibility wind desired c → (r ≡ ruled_answer own count entries visibility wind desired c) × Demand3 own entries visibility wind desired c count r
-  accepted e r er = promised r (er ∙ same e ∙ of Verdict.Accepted e)
+  pub accepted : w ≡ (Ok tt) → (r : Result RuledManoeuvre Refusal) → r ≡ ruled_as own entries visibility wind desired c → (r ≡ ruled_answer own count entries visibility wind desired c) × Demand3 own entries visibility wind desired c count r
+  accepted e r er = promised r (er ∙ same e ∙ of (Ok tt) e)
 
-  pub refused : (why : Refusal) → w ≡ Verdict.Refused why → (Refused why ≡ ruled_answer own count entries visibility wind desired c) × Demand3 own entries visibility wind desired c count (Refused why)
-  refused why e = promised (Refused why) (of (Verdict.Refused why) e)
+  pub refused : (why : Refusal) → w ≡ Err why → (Err why ≡ ruled_answer own count entries visibility wind desired c) × Demand3 own entries visibility wind desired c count (Err why)
+  refused why e = promised (Err why) (of (Err why) e)

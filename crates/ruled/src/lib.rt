@@ -8,64 +8,62 @@ ghost use Rattle.rulings.specs.Demand3.{Demand3};
 ghost use Rattle.rulings.specs.Ruled as Spec;
 ghost use Rattle.traffic.specs.Traffic as Around;
 
-use arguments::Verdict;
-use choice::{Choice, Chosen, Sides};
+use choice::{Chosen, Sides};
 use constraints::ManoeuvreConstraints;
 use elementary::error::Refusal;
-use motion::units::Distance;
+use motion::units::{Direction, Distance};
 use motion::vessel::Vessel;
-use rulings::{RuledAnswer, RuledManoeuvre};
+use rulings::RuledManoeuvre;
 use situation::check;
-use situation::party::{Party, Perhaps, Visibility};
+use situation::party::{Party, Visibility};
 use traffic::Traffic;
 
 // The count of contacts, own craft, the contacts entry by entry, the wind, the desired distance, the constraints.
 fn check_arguments(
     own: Party,
     t: Traffic,
-    wind: Perhaps,
+    wind: Option<Direction>,
     desired: Distance,
     c: ManoeuvreConstraints,
-) -> Verdict
-    ensures { result ≡ Check.verdict (Spec.ruled_checks own t.count (Around.contacts t) wind desired c) Verdict.Accepted }
+) -> Result<(), Refusal>
+    ensures { result ≡ Check.checked (Spec.ruled_checks own t.count (Around.contacts t) wind desired c) }
 {
-    let from_desired = arguments::check_distance(
-        desired,
-        constraints::check_constraints(c, Verdict::Accepted),
-    );
-    let from_wind = check::check_perhaps(wind, from_desired);
-    let from_contacts = traffic::check_contacts(t, from_wind);
-    traffic::check_count(t.count, check::check_party(own, from_contacts))
+    traffic::check_count(t.count)?;
+    check::check_party(own)?;
+    traffic::check_contacts(t)?;
+    check::check_perhaps(wind)?;
+    arguments::check_distance(desired)?;
+    constraints::check_constraints(c)
 }
 
 // What is said of a trial that was chosen.
 fn manoeuvre_of(own: Vessel, c: ManoeuvreConstraints, chosen: Chosen) -> RuledManoeuvre
     ensures { result ≡ Spec.manoeuvre_of own c chosen }
 {
-    let side = chosen.side;
     let magnitude = chosen.magnitude;
-    let passing = chosen.passing;
-    let altered = choice::altered(own, choice::signed(side, magnitude.0));
+    let altered = choice::altered(own, choice::signed(chosen.side, magnitude.0));
     let time = manoeuvre::turn_time(magnitude.0, c.rate_of_turn());
     let course = altered.course;
-    let distance = passing.distance;
-    let limiting = passing.limiting;
     RuledManoeuvre {
-        side: side,
-        magnitude: magnitude,
-        course: course,
+        side: chosen.side,
+        magnitude,
+        course,
         turn_time: time,
-        passing: distance,
-        limiting: limiting,
+        passing: chosen.passing.distance,
+        limiting: chosen.passing.limiting,
     }
 }
 
-fn chosen_answer(own: Vessel, c: ManoeuvreConstraints, choice: Choice) -> RuledAnswer
+fn chosen_answer(
+    own: Vessel,
+    c: ManoeuvreConstraints,
+    choice: Option<Chosen>,
+) -> Result<RuledManoeuvre, Refusal>
     ensures { result ≡ Spec.chosen_answer own c choice }
 {
     match choice {
-        Choice::Nothing => RuledAnswer::Refused(Refusal::NoTrialClears),
-        Choice::Of(chosen) => RuledAnswer::Of(manoeuvre_of(own, c, chosen)),
+        None => Err(Refusal::NoTrialClears),
+        Some(chosen) => Ok(manoeuvre_of(own, c, chosen)),
     }
 }
 
@@ -74,10 +72,10 @@ fn search(
     own: Party,
     t: Traffic,
     visibility: Visibility,
-    wind: Perhaps,
+    wind: Option<Direction>,
     desired: Distance,
     c: ManoeuvreConstraints,
-) -> RuledAnswer
+) -> Result<RuledManoeuvre, Refusal>
     ensures { result ≡ Spec.ruled_as own (Around.contacts t) visibility wind desired c }
 {
     let sides = rulings::shared_sides(own, t, visibility, wind);
@@ -95,7 +93,7 @@ fn search(
         );
         return chosen_answer(vessel, c, found);
     }
-    RuledAnswer::Refused(Refusal::NoSharedSide)
+    Err(Refusal::NoSharedSide)
 }
 
 // The smallest trial that clears every contact, on a side that every contact's ruling permits, starboard of equal ones. Arguments are
@@ -104,15 +102,12 @@ pub fn ruled_search(
     own: Party,
     t: Traffic,
     visibility: Visibility,
-    wind: Perhaps,
+    wind: Option<Direction>,
     desired: Distance,
     constraints: ManoeuvreConstraints,
-) -> RuledAnswer
+) -> Result<RuledManoeuvre, Refusal>
     ensures { (result ≡ Spec.ruled_answer own t.count (Around.contacts t) visibility wind desired constraints) × Demand3 own (Around.contacts t) visibility wind desired constraints t.count result }
 {
-    let verdict = check_arguments(own, t, wind, desired, constraints);
-    match verdict {
-        Verdict::Accepted => search(own, t, visibility, wind, desired, constraints),
-        Verdict::Refused(why) => RuledAnswer::Refused(why),
-    }
+    check_arguments(own, t, wind, desired, constraints)?;
+    search(own, t, visibility, wind, desired, constraints)
 }

@@ -1,4 +1,5 @@
 -- What it means that the checks of the ruled search accept its arguments: own craft, every contact and the limits of the trials are fit, and every contact has a ruling.
+use Rattle.std.specs.Prelude.{Ok}
 use mathlib.Core.Path.{◌≡◌, sym, ap, subst}
 use mathlib.Core.Logic.{⊎_elim}
 use mathlib.Core.List.Memᴰ
@@ -7,15 +8,14 @@ use Prim.Native.Nat.{ℕ}
 use lib.Ieee.{le, of_bits}
 use Rattle.elementary.specs.Range.{in_range}
 use Rattle.motion.specs.declared.units.Distance.{Distance}
-use Rattle.arguments.specs.declared.Verdict.TheVariants as Verdict
+use Rattle.std.specs.declared.option.Option.{Option}
+use Rattle.motion.specs.declared.units.Direction.{Direction}
 use Rattle.arguments.specs.Check.{Check, verdict, vessel_checks, contact_checks, distance_checks}
 use Rattle.situation.specs.declared.party.Party.{Party}
-use Rattle.situation.specs.declared.party.Perhaps.{Perhaps}
 use Rattle.situation.specs.declared.party.Visibility.{Visibility}
 use Rattle.situation.specs.Situation.{standard}
 use Rattle.situation.specs.Arguments.{perhaps_checks, party_checks, is_width, config_checks, situation_checks}
 use Rattle.facts.specs.Facts.{facts_of}
-use Rattle.colregs.specs.declared.answer.RulingAnswer.TheVariants as RulingAnswer
 use Rattle.colregs.specs.Colregs.{ruling_of, ruling_by, ruling_answer}
 use Rattle.constraints.specs.declared.ManoeuvreConstraints.{ManoeuvreConstraints}
 use Rattle.constraints.specs.Constraints.{constraint_checks}
@@ -44,7 +44,7 @@ unfolding contacts_checks
 entry_good [] g e m = absurd (Memᴰ.not-nil m)
 entry_good (x ∷ entries) g e m = ⊎_elim (λ is. subst (λ z. AllGood (entry_checks z)) (sym is) (good_front (entry_checks x) (contacts_checks entries) g)) (λ r. entry_good entries (good_back (entry_checks x) (contacts_checks entries) g) e r) (Memᴰ.cases_cons m)
 
-module _ (own : Party) (count : ℕ) (entries : List Entry) (wind : Perhaps) (desired : Distance) (c : ManoeuvreConstraints) (h : verdict (ruled_checks own count entries wind desired c) Verdict.Accepted ≡ Verdict.Accepted) where
+module _ (own : Party) (count : ℕ) (entries : List Entry) (wind : Option Direction) (desired : Distance) (c : ManoeuvreConstraints) (h : verdict (ruled_checks own count entries wind desired c) (Ok tt) ≡ (Ok tt)) where
   -- the checks from desired on, from wind on, from the contacts on
   abbrev from_desired : List Check
   from_desired = distance_checks desired ++ constraint_checks c
@@ -73,7 +73,7 @@ module _ (own : Party) (count : ℕ) (entries : List Entry) (wind : Perhaps) (de
   after-contacts = good_back (contacts_checks entries) from_wind after_own
 
   -- every contact has a ruling
-  pub ruled : (visibility : Visibility) (e : Entry) → Memᴰ e entries → ruling_answer (situation_of own visibility wind e) standard ≡ RulingAnswer.Of (ruling_of standard (facts_of (situation_of own visibility wind e)))
+  pub ruled : (visibility : Visibility) (e : Entry) → Memᴰ e entries → ruling_answer (situation_of own visibility wind e) standard ≡ Ok (ruling_of standard (facts_of (situation_of own visibility wind e)))
   unfolding ruling_answer situation_checks
   ruled visibility e m =
       let g = each_good e m in

@@ -1,4 +1,5 @@
 -- What one contact does on a course, and all of them, in the words of demand 3: a course clears exactly if no contact closes under desired minus 1e-9, and what is said of its passing distance and limiting contact.
+use Rattle.std.specs.Prelude.{None, Some, Err, Ok}
 use mathlib.Core.Path.{◌≡◌, refl, sym, ap, ◌∙◌, subst}
 use mathlib.Core.Bool.{Bool, true, false, cond, true≢false}
 use mathlib.Core.Logic.{◌⊎◌, ⊎_elim}
@@ -16,19 +17,13 @@ use Rattle.motion.specs.Vessel.{offset, relative_velocity}
 use Rattle.relative_motion.specs.declared.approach.Cpa.{Cpa}
 use Rattle.relative_motion.specs.declared.approach.Approach.{Approach}
 use Rattle.relative_motion.specs.declared.approach.Approach.TheVariants as Approach
-use Rattle.relative_motion.specs.declared.approach.CpaAnswer.{CpaAnswer}
-use Rattle.relative_motion.specs.declared.approach.CpaAnswer.TheVariants as CpaAnswer
+use Rattle.std.specs.declared.option.Option.{Option}
+use Rattle.std.specs.declared.result.Result.{Result}
+use Rattle.elementary.specs.declared.error.Refusal.{Refusal}
 use Rattle.relative_motion.specs.Approach.{stationary_knots, relative_speed, time_of, approach_from, approach, passing_in, cpa_by, cpa_answer}
 use Rattle.arguments.specs.Check as Check
 use Rattle.arguments.specs.Check.{verdict, encounter_checks}
-use Rattle.arguments.specs.declared.Verdict.{Verdict}
-use Rattle.arguments.specs.declared.Verdict.TheVariants as Verdict
-use Rattle.manoeuvre.specs.declared.Limiting.TheVariants as Limiting
-use Rattle.passages.specs.declared.Passage.{Passage}
-use Rattle.passages.specs.declared.Passage.TheVariants.{Blocked, At}
 use Rattle.clearing.specs.declared.Passing.{Passing}
-use Rattle.clearing.specs.declared.Clearance.{Clearance}
-use Rattle.clearing.specs.declared.Clearance.TheVariants.{No, Yes}
 use Rattle.clearing.specs.Clearing.{largest, floor_of, passed, passed_by, passage, clearing}
 use Rattle.traffic.specs.declared.Entry.{Entry}
 use Rattle.traffic.specs.Traffic.{target_of}
@@ -41,69 +36,69 @@ use Rattle.rulings.specs.Demand3.{passing_by, approach_to, passing_distance, Clo
 
 -- ---- one contact
 -- a contact that does not close is at its range
-abbrev range_in : CpaAnswer → Distance → Distance
-range_in (CpaAnswer.Of (Approach.Closing cpa)) other = other
-range_in (CpaAnswer.Of (Approach.Opening range)) other = range
-range_in (CpaAnswer.Of (Approach.Stationary range)) other = range
-range_in (CpaAnswer.Refused why) other = other
+abbrev range_in : Result Approach Refusal → Distance → Distance
+range_in (Ok (Approach.Closing cpa)) other = other
+range_in (Ok (Approach.Opening range)) other = range
+range_in (Ok (Approach.Stationary range)) other = range
+range_in (Err why) other = other
 
-by_cases : (w : Verdict) (a b : Bool) (range : Distance) (cpa : Cpa) → range_in (cpa_by w (cond a (Approach.Stationary range) (cond b (Approach.Opening range) (Approach.Closing cpa)))) range ≡ range
-by_cases (Verdict.Refused why) a b range cpa = refl
-by_cases Verdict.Accepted true b range cpa = refl
-by_cases Verdict.Accepted false true range cpa = refl
-by_cases Verdict.Accepted false false range cpa = refl
+by_cases : (w : Result (Unit {0}) Refusal) (a b : Bool) (range : Distance) (cpa : Cpa) → range_in (cpa_by w (cond a (Approach.Stationary range) (cond b (Approach.Opening range) (Approach.Closing cpa)))) range ≡ range
+by_cases (Err why) a b range cpa = refl
+by_cases (Ok tt) true b range cpa = refl
+by_cases (Ok tt) false true range cpa = refl
+by_cases (Ok tt) false false range cpa = refl
 
 at_range : (v : Vessel) (e : Entry) → range_in (approach_to v e) e.contact.range ≡ e.contact.range
 unfolding cpa_answer approach approach_from
-at_range v e = by_cases (verdict (encounter_checks v e.contact e.target.motion) Verdict.Accepted) (lt (relative_speed (relative_velocity v e.target.motion)) stationary_knots) (le (time_of (offset e.contact) (relative_velocity v e.target.motion)) Check.zero) e.contact.range _
+at_range v e = by_cases (verdict (encounter_checks v e.contact e.target.motion) (Ok tt)) (lt (relative_speed (relative_velocity v e.target.motion)) stationary_knots) (le (time_of (offset e.contact) (relative_velocity v e.target.motion)) Check.zero) e.contact.range _
 
 module _ (desired : Distance) (v : Vessel) (e : Entry) where
-  closes_blocks : ClosesUnder desired v e → passage v (floor_of desired) (target_of e) ≡ Blocked
+  closes_blocks : ClosesUnder desired v e → passage v (floor_of desired) (target_of e) ≡ None
   unfolding passage target_of
-  closes_blocks u = ap (passed_by (floor_of desired)) u.closing ∙ ap (λ b. cond b Blocked (At u.cpa.distance)) (is_true (lt u.cpa.distance.0 (floor_of desired)) u.under)
+  closes_blocks u = ap (passed_by (floor_of desired)) u.closing ∙ ap (λ b. cond b None (Some u.cpa.distance)) (is_true (lt u.cpa.distance.0 (floor_of desired)) u.under)
 
-  passes_at : (d : Distance) → passage v (floor_of desired) (target_of e) ≡ At d → passing_distance v e ≡ d
+  passes_at : (d : Distance) → passage v (floor_of desired) (target_of e) ≡ Some d → passing_distance v e ≡ d
   unfolding passage target_of
   passes_at d h = go (approach_to v e) refl h
     where
-      closing : (b : Bool) (x : Distance) → cond b Blocked (At x) ≡ At d → x ≡ d
+      closing : (b : Bool) (x : Distance) → cond b None (Some x) ≡ Some d → x ≡ d
       closing true x q = absurd (not_blocked d q)
       closing false x q = ap (at d) q
 
-      go : (a : CpaAnswer) → approach_to v e ≡ a → passed_by (floor_of desired) a ≡ At d → passing_by a e.contact.range ≡ d
-      go (CpaAnswer.Of (Approach.Closing cpa)) q h = closing (lt cpa.distance.0 (floor_of desired)) cpa.distance h
-      go (CpaAnswer.Of (Approach.Opening r)) q h = sym (at_range v e) ∙ ap (λ a. range_in a e.contact.range) q ∙ ap (at d) h
-      go (CpaAnswer.Of (Approach.Stationary r)) q h = sym (at_range v e) ∙ ap (λ a. range_in a e.contact.range) q ∙ ap (at d) h
-      go (CpaAnswer.Refused why) q h = absurd (not_blocked d h)
+      go : (a : Result Approach Refusal) → approach_to v e ≡ a → passed_by (floor_of desired) a ≡ Some d → passing_by a e.contact.range ≡ d
+      go (Ok (Approach.Closing cpa)) q h = closing (lt cpa.distance.0 (floor_of desired)) cpa.distance h
+      go (Ok (Approach.Opening r)) q h = sym (at_range v e) ∙ ap (λ a. range_in a e.contact.range) q ∙ ap (at d) h
+      go (Ok (Approach.Stationary r)) q h = sym (at_range v e) ∙ ap (λ a. range_in a e.contact.range) q ∙ ap (at d) h
+      go (Err why) q h = absurd (not_blocked d h)
 
   module _ (o : FitVessel v) (f : FitTarget (target_of e)) where
     good : AllGood (encounter_checks v e.contact e.target.motion)
     unfolding encounter_checks target_of
     good = (o.course, (o.speed, (f.contact.bearing, (f.contact.range, (f.vessel.course, (f.vessel.speed, tt))))))
 
-    pub answers : approach_to v e ≡ CpaAnswer.Of (approach v e.contact e.target.motion)
+    pub answers : approach_to v e ≡ Ok (approach v e.contact e.target.motion)
     unfolding cpa_answer
     answers = ap (λ w. cpa_by w (approach v e.contact e.target.motion)) (accepted (encounter_checks v e.contact e.target.motion) good)
 
-    blocked_closes : passage v (floor_of desired) (target_of e) ≡ Blocked → ClosesUnder desired v e
+    blocked_closes : passage v (floor_of desired) (target_of e) ≡ None → ClosesUnder desired v e
     unfolding passage target_of
     blocked_closes h = go (approach v e.contact e.target.motion) answers (sym (ap (passed_by (floor_of desired)) answers) ∙ h)
       where
-        closing : (b : Bool) (x : Distance) → cond b Blocked (At x) ≡ Blocked → T b
+        closing : (b : Bool) (x : Distance) → cond b None (Some x) ≡ None → T b
         closing true x q = tt
         closing false x q = absurd (not_blocked x (sym q))
 
-        go : (a : Approach) → approach_to v e ≡ CpaAnswer.Of a → passed (floor_of desired) (passing_in a) ≡ Blocked → ClosesUnder desired v e
+        go : (a : Approach) → approach_to v e ≡ Ok a → passed (floor_of desired) (passing_in a) ≡ None → ClosesUnder desired v e
         go (Approach.Closing cpa) q h = record { cpa = cpa; closing = q; under = closing (lt cpa.distance.0 (floor_of desired)) cpa.distance h }
         go (Approach.Opening r) q h = absurd (not_blocked r (sym h))
         go (Approach.Stationary r) q h = absurd (not_blocked r (sym h))
 
 -- ---- all contacts
-abbrev clears : Clearance → Bool
-clears No = false
-clears (Yes p) = true
+abbrev clears : Option Passing → Bool
+clears None = false
+clears (Some p) = true
 
-no_yes : (p : Passing) → No ≡ Yes p → ⊥
+no_yes : (p : Passing) → None ≡ Some p → ⊥
 no_yes p e = true≢false (sym (ap clears e))
 
 none_of_map : {A B : Type 0} (f : A → B) (l : List A) → map f l ≡ [] → l ≡ []
@@ -111,10 +106,10 @@ none_of_map f [] e = refl
 none_of_map f (x ∷ l) e = absurd (nil≢cons (sym e))
 
 module _ (desired : Distance) (v : Vessel) (o : FitVessel v) (entries : List Entry) (f : (e : Entry) → Memᴰ e entries → FitTarget (target_of e)) where
-  abbrev passage_of : Entry → Passage
+  abbrev passage_of : Entry → Option Distance
   passage_of e = passage v (floor_of desired) (target_of e)
 
-  abbrev passages : List Passage
+  abbrev passages : List (Option Distance)
   passages = map (passage v (floor_of desired)) (map target_of entries)
 
   targets : FitTargets (map target_of entries)
@@ -130,17 +125,17 @@ module _ (desired : Distance) (v : Vessel) (o : FitVessel v) (entries : List Ent
   of_entries = map-map (passage v (floor_of desired)) target_of entries
 
   -- it does not clear: then some contact closes under
-  pub not_clear : clearing passages ≡ No → ((e : Entry) → Memᴰ e entries → ClosesUnder desired v e → ⊥) → ⊥
+  pub not_clear : clearing passages ≡ None → ((e : Entry) → Memᴰ e entries → ClosesUnder desired v e → ⊥) → ⊥
   not_clear h all =
-      let u = Memᴰ.of_map passage_of entries (subst (Memᴰ Blocked) of_entries (blocked passages not-nan h)) in
+      let u = Memᴰ.of_map passage_of entries (subst (Memᴰ None) of_entries (blocked passages not-nan h)) in
       all u.0 u.1 (blocked_closes desired v u.0 o (f u.0 u.1) u.2)
 
-  module _ (p : Passing) (h : clearing passages ≡ Yes p) where
+  module _ (p : Passing) (h : clearing passages ≡ Some p) where
     -- it clears: then none does
     pub all_clear : (e : Entry) → Memᴰ e entries → ClosesUnder desired v e → ⊥
     all_clear e m u = no_yes p (sym (blocks_it passages not-nan (subst (λ q. Memᴰ q passages) (closes_blocks desired v e u) (in-passages e m))) ∙ h)
 
-    said : ((passages ≡ []) × (p ≡ record { distance = record { 0 = largest }; limiting = Limiting.Nobody })) ⊎ Closest passages p
+    said : ((passages ≡ []) × (p ≡ record { distance = record { 0 = largest }; limiting = None })) ⊎ Closest passages p
     said = clear passages not-nan p h
 
     pub at_most : (e : Entry) → Memᴰ e entries → T (le p.distance.0 (passing_distance v e).0)
@@ -149,17 +144,17 @@ module _ (desired : Distance) (v : Vessel) (o : FitVessel v) (entries : List Ent
         by : Closest passages p → T (le p.distance.0 (passing_distance v e).0)
         by c = let q = c.each (passage_of e) (in-passages e m) in subst (λ d. T (le p.distance.0 d.0)) (sym (passes_at desired v e q.0 q.1)) q.2
 
-    pub free : entries ≡ [] → p ≡ record { distance = record { 0 = largest }; limiting = Limiting.Nobody }
-    free e = ⊎_elim (λ k. k.1) (λ c. absurd (Memᴰ.not-nil (subst (Memᴰ (At p.distance)) (sym c.split ∙ ap (λ es. map (passage v (floor_of desired)) (map target_of es)) e) (Memᴰ.append_right c.before (Memᴰ.head refl))))) said
+    pub free : entries ≡ [] → p ≡ record { distance = record { 0 = largest }; limiting = None }
+    free e = ⊎_elim (λ k. k.1) (λ c. absurd (Memᴰ.not-nil (subst (Memᴰ (Some p.distance)) (sym c.split ∙ ap (λ es. map (passage v (floor_of desired)) (map target_of es)) e) (Memᴰ.append_right c.before (Memᴰ.head refl))))) said
 
-    pub first : (entries ≡ [] → ⊥) → (place : ℕ) × (p.limiting ≡ Limiting.Contact place) × FirstAt entries v p.distance place
+    pub first : (entries ≡ [] → ⊥) → (place : ℕ) × (p.limiting ≡ Some place) × FirstAt entries v p.distance place
     first some = ⊎_elim (λ k. absurd (some (none_of_map target_of entries (none_of_map (passage v (floor_of desired)) (map target_of entries) k.0)))) by said
       where
-        by : Closest passages p → (place : ℕ) × (p.limiting ≡ Limiting.Contact place) × FirstAt entries v p.distance place
+        by : Closest passages p → (place : ℕ) × (p.limiting ≡ Some place) × FirstAt entries v p.distance place
         by c =
-            let k = cut_map passage_of entries c.before (At p.distance) c.after (sym of_entries ∙ c.split) in (
+            let k = cut_map passage_of entries c.before (Some p.distance) c.after (sym of_entries ∙ c.split) in (
               length k.front,
-              c.place ∙ ap (λ l. Limiting.Contact (length l)) (sym k.is_front) ∙ ap Limiting.Contact (length-map k.front passage_of),
+              c.place ∙ ap (λ l. Some (length l)) (sym k.is_front) ∙ ap Some (length-map k.front passage_of),
               record {
                 before = k.front;
                 it = k.it;

@@ -1,4 +1,5 @@
 -- The definition of the ruled search meets demand 3.
+use Rattle.std.specs.Prelude.{None, Some, Err, Ok}
 use mathlib.Core.Path.{◌≡◌, refl, sym, ap, ◌∙◌, subst}
 use mathlib.Core.Bool.{Bool, true, false, cond, ◌||◌, true≢false}
 use mathlib.Core.List.{List, map, Memᴰ}
@@ -12,14 +13,14 @@ use Rattle.laws.proofs.Bools.{or_left, or_right}
 use Rattle.elementary.specs.declared.error.Refusal.TheVariants as Why
 use Rattle.motion.specs.declared.units.Distance.{Distance}
 use Rattle.motion.specs.declared.vessel.Vessel.{Vessel}
-use Rattle.arguments.specs.declared.Verdict.{Verdict}
-use Rattle.arguments.specs.declared.Verdict.TheVariants as Verdict
+use Rattle.std.specs.declared.option.Option.{Option}
+use Rattle.std.specs.declared.result.Result.{Result}
+use Rattle.elementary.specs.declared.error.Refusal.{Refusal}
+use Rattle.motion.specs.declared.units.Direction.{Direction}
 use Rattle.arguments.specs.Check.{verdict}
 use Rattle.relative_motion.specs.declared.approach.Approach.{Approach}
-use Rattle.relative_motion.specs.declared.approach.CpaAnswer.TheVariants as CpaAnswer
 use Rattle.relative_motion.specs.Approach.{approach}
 use Rattle.situation.specs.declared.party.Party.{Party}
-use Rattle.situation.specs.declared.party.Perhaps.{Perhaps}
 use Rattle.situation.specs.declared.party.Visibility.{Visibility}
 use Rattle.situation.specs.Situation.{standard}
 use Rattle.facts.specs.Facts.{facts_of}
@@ -30,14 +31,10 @@ use Rattle.constraints.specs.declared.ManoeuvreConstraints.{ManoeuvreConstraints
 use Rattle.trials.specs.Trials.{trials}
 use Rattle.trials.proofs.Climbing.{is_trial_list}
 use Rattle.trials.proofs.Listed.{ascending}
-use Rattle.clearing.specs.declared.Clearance.{Clearance}
-use Rattle.clearing.specs.declared.Clearance.TheVariants.{No, Yes}
 use Rattle.clearing.specs.declared.Passing.{Passing}
 use Rattle.clearing.specs.Clearing.{altered, clears}
 use Rattle.choice.specs.declared.Sides.{Sides}
 use Rattle.choice.specs.declared.Chosen.{Chosen}
-use Rattle.choice.specs.declared.Choice.{Choice}
-use Rattle.choice.specs.declared.Choice.TheVariants as Choice
 use Rattle.choice.specs.Choice.{signed, choice, trial_clears, choice_for}
 use Rattle.traffic.specs.declared.Entry.{Entry}
 use Rattle.traffic.specs.Traffic.{target_of}
@@ -47,8 +44,6 @@ use Rattle.choice_laws.proofs.Prepared.{altered_fit}
 use Rattle.choice_laws.proofs.Searched.{trial-small, signed-small}
 use Rattle.choice_laws.proofs.Chosen.{is_choice, no_choice}
 use Rattle.rulings.specs.declared.RuledManoeuvre.{RuledManoeuvre}
-use Rattle.rulings.specs.declared.RuledAnswer.{RuledAnswer}
-use Rattle.rulings.specs.declared.RuledAnswer.TheVariants.{Of, Refused}
 use Rattle.rulings.specs.Ruled.{shared_sides, ruled_checks, manoeuvre_of, chosen_answer, answered, ruled, ruled_by, ruled_number, ruled_answer}
 use Rattle.rulings.specs.Demand3.{approach_to, Shared, Trial, Clears, Smallest, OnAccepted, Demand3}
 use Rattle.ruled_laws.specs.Held.{HeldArguments}
@@ -57,17 +52,17 @@ use Rattle.ruled_laws.proofs.Contacts as Contacts
 use Rattle.ruled_laws.proofs.Shared.{is_shared, shared_allows}
 
 -- ---- answers that differ
-abbrev which : RuledManoeuvre → RuledAnswer → RuledManoeuvre
-which other (Of m) = m
-which other (Refused why) = other
+abbrev which : RuledManoeuvre → Result RuledManoeuvre Refusal → RuledManoeuvre
+which other (Ok m) = m
+which other (Err why) = other
 
-answered-not-5 : (m : RuledManoeuvre) → Of m ≡ Refused Why.NoTrialClears → ⊥
+answered-not-5 : (m : RuledManoeuvre) → Ok m ≡ Err Why.NoTrialClears → ⊥
 answered-not-5 m e = let z : ◌≡◌ {A = ℕ} 0 5 = ap ruled_number e in omega arith
 
-answered-not-13 : (m : RuledManoeuvre) → Of m ≡ Refused Why.NoSharedSide → ⊥
+answered-not-13 : (m : RuledManoeuvre) → Ok m ≡ Err Why.NoSharedSide → ⊥
 answered-not-13 m e = let z : ◌≡◌ {A = ℕ} 0 13 = ap ruled_number e in omega arith
 
-five_not_13 : Refused Why.NoTrialClears ≡ Refused Why.NoSharedSide → ⊥
+five_not_13 : ◌≡◌ {A = Result RuledManoeuvre Refusal} (Err Why.NoTrialClears) (Err Why.NoSharedSide) → ⊥
 five_not_13 e = let z : ◌≡◌ {A = ℕ} 5 13 = ap ruled_number e in omega arith
 
 -- ---- whether there is a side
@@ -83,8 +78,8 @@ allowed_side s h = go s.starboard refl s.port refl h
     go false p true q h = (Port, subst T (sym q) tt)
     go false p false q h = absurd (true≢false (sym h))
 
-module _ (own : Party) (count : ℕ) (entries : List Entry) (visibility : Visibility) (wind : Perhaps) (desired : Distance) (c : ManoeuvreConstraints) (k : HeldArguments own entries c) where
-  module _ (h : verdict (ruled_checks own count entries wind desired c) Verdict.Accepted ≡ Verdict.Accepted) where
+module _ (own : Party) (count : ℕ) (entries : List Entry) (visibility : Visibility) (wind : Option Direction) (desired : Distance) (c : ManoeuvreConstraints) (k : HeldArguments own entries c) where
+  module _ (h : verdict (ruled_checks own count entries wind desired c) (Ok tt) ≡ (Ok tt)) where
     abbrev least : Float
     least = c.least_alteration.0
 
@@ -94,7 +89,7 @@ module _ (own : Party) (count : ℕ) (entries : List Entry) (visibility : Visibi
     abbrev sides : Sides
     sides = shared_sides own visibility wind entries
 
-    abbrev clears_by : Side → Float → Clearance
+    abbrev clears_by : Side → Float → Option Passing
     clears_by = trial_clears own.motion (map target_of entries) desired
 
     up : Ascending (trials least most)
@@ -108,14 +103,14 @@ module _ (own : Party) (count : ℕ) (entries : List Entry) (visibility : Visibi
       fit : FitVessel (altered own.motion (signed side m))
       fit = altered_fit own.motion (signed side m) (Accepted.own_fit own count entries wind desired c h k) (signed-small side m (trial-small least most (Accepted.limits own count entries wind desired c h k) m t))
 
-      approaches : (e : Entry) → Memᴰ e entries → (a : Approach) × (approach_to (altered own.motion (signed side m)) e ≡ CpaAnswer.Of a)
+      approaches : (e : Entry) → Memᴰ e entries → (a : Approach) × (approach_to (altered own.motion (signed side m)) e ≡ Ok a)
       approaches e i = (approach (altered own.motion (signed side m)) e.contact e.target.motion, Contacts.answers desired (altered own.motion (signed side m)) e fit (Accepted.entry_fit own count entries wind desired c h k e i))
 
-      fails : clears_by side m ≡ No → Clears own entries visibility wind desired c side m → ⊥
+      fails : clears_by side m ≡ None → Clears own entries visibility wind desired c side m → ⊥
       unfolding trial_clears clears
       fails e all = Contacts.not_clear desired (altered own.motion (signed side m)) fit entries (Accepted.entry_fit own count entries wind desired c h k) e all
 
-      is_clear : (p : Passing) → clears_by side m ≡ Yes p → Clears own entries visibility wind desired c side m
+      is_clear : (p : Passing) → clears_by side m ≡ Some p → Clears own entries visibility wind desired c side m
       unfolding trial_clears clears
       is_clear p e = Contacts.all_clear desired (altered own.motion (signed side m)) fit entries (Accepted.entry_fit own count entries wind desired c h k) p e
 
@@ -141,10 +136,10 @@ module _ (own : Party) (count : ℕ) (entries : List Entry) (visibility : Visibi
         }
 
     -- ---- the answer
-    abbrev chosen : Choice
+    abbrev chosen : Option Chosen
     chosen = choice sides clears_by (trials least most)
 
-    abbrev answer : RuledAnswer
+    abbrev answer : Result RuledManoeuvre Refusal
     answer = ruled own entries visibility wind desired c
 
     is_answer : answer ≡ answered own.motion c sides chosen
@@ -153,69 +148,69 @@ module _ (own : Party) (count : ℕ) (entries : List Entry) (visibility : Visibi
 
     with_side : (side : Side) → T (allows sides side) → answer ≡ chosen_answer own.motion c chosen
     unfolding answered
-    with_side side t = is_answer ∙ ap (λ b. cond b (chosen_answer own.motion c chosen) (Refused Why.NoSharedSide)) (some_allowed sides side t)
+    with_side side t = is_answer ∙ ap (λ b. cond b (chosen_answer own.motion c chosen) (Err Why.NoSharedSide)) (some_allowed sides side t)
 
     -- every answer is one of three
-    by_sides : (b : Bool) → sides.starboard || sides.port ≡ b → answer ≡ cond b (chosen_answer own.motion c chosen) (Refused Why.NoSharedSide)
+    by_sides : (b : Bool) → sides.starboard || sides.port ≡ b → answer ≡ cond b (chosen_answer own.motion c chosen) (Err Why.NoSharedSide)
     unfolding answered
-    by_sides b e = is_answer ∙ ap (λ b. cond b (chosen_answer own.motion c chosen) (Refused Why.NoSharedSide)) e
+    by_sides b e = is_answer ∙ ap (λ b. cond b (chosen_answer own.motion c chosen) (Err Why.NoSharedSide)) e
 
-    no_side : answer ≡ Refused Why.NoSharedSide → (side : Side) → Shared own entries visibility wind desired c side → ⊥
+    no_side : answer ≡ Err Why.NoSharedSide → (side : Side) → Shared own entries visibility wind desired c side → ⊥
     no_side e side s = go chosen (sym (with_side side (shared_allows own visibility wind entries desired c side s)) ∙ e)
       where
-        go : (x : Choice) → chosen_answer own.motion c x ≡ Refused Why.NoSharedSide → ⊥
-        go Choice.Nothing q = five_not_13 q
-        go (Choice.Of y) q = answered-not-13 (manoeuvre_of own.motion c y) q
+        go : (x : Option Chosen) → chosen_answer own.motion c x ≡ Err Why.NoSharedSide → ⊥
+        go None q = five_not_13 q
+        go (Some y) q = answered-not-13 (manoeuvre_of own.motion c y) q
 
-    thirteen_if : ((side : Side) → Shared own entries visibility wind desired c side → ⊥) → answer ≡ Refused Why.NoSharedSide
+    thirteen_if : ((side : Side) → Shared own entries visibility wind desired c side → ⊥) → answer ≡ Err Why.NoSharedSide
     thirteen_if none = go (sides.starboard || sides.port) refl
       where
-        go : (b : Bool) → sides.starboard || sides.port ≡ b → answer ≡ Refused Why.NoSharedSide
+        go : (b : Bool) → sides.starboard || sides.port ≡ b → answer ≡ Err Why.NoSharedSide
         go true e = let s = allowed_side sides e in absurd (none s.0 (is_shared own visibility wind entries desired c s.0 s.1))
         go false e = by_sides false e
 
-    some_side : answer ≡ Refused Why.NoTrialClears → (side : Side) × Shared own entries visibility wind desired c side
+    some_side : answer ≡ Err Why.NoTrialClears → (side : Side) × Shared own entries visibility wind desired c side
     some_side q = go (sides.starboard || sides.port) refl
       where
         go : (b : Bool) → sides.starboard || sides.port ≡ b → (side : Side) × Shared own entries visibility wind desired c side
         go true e = let s = allowed_side sides e in (s.0, is_shared own visibility wind entries desired c s.0 s.1)
         go false e = absurd (five_not_13 (sym q ∙ by_sides false e))
 
-    no_trial : answer ≡ Refused Why.NoTrialClears → (side : Side) (m : Float) → Shared own entries visibility wind desired c side → Trial own entries visibility wind desired c m → Clears own entries visibility wind desired c side m → ⊥
+    no_trial : answer ≡ Err Why.NoTrialClears → (side : Side) (m : Float) → Shared own entries visibility wind desired c side → Trial own entries visibility wind desired c m → Clears own entries visibility wind desired c side m → ⊥
     no_trial q side m s t all = go chosen refl (sym (with_side side (shared_allows own visibility wind entries desired c side s)) ∙ q)
       where
-        go : (x : Choice) → chosen ≡ x → chosen_answer own.motion c x ≡ Refused Why.NoTrialClears → ⊥
-        go Choice.Nothing e q = fails side m t (no_choice sides clears_by (trials least most) up e side m (shared_allows own visibility wind entries desired c side s) t) all
-        go (Choice.Of y) e q = answered-not-5 (manoeuvre_of own.motion c y) q
+        go : (x : Option Chosen) → chosen ≡ x → chosen_answer own.motion c x ≡ Err Why.NoTrialClears → ⊥
+        go None e q = fails side m t (no_choice sides clears_by (trials least most) up e side m (shared_allows own visibility wind entries desired c side s) t) all
+        go (Some y) e q = answered-not-5 (manoeuvre_of own.motion c y) q
 
-    is_smallest : (m : RuledManoeuvre) → answer ≡ Of m → Smallest own entries visibility wind desired c m
+    is_smallest : (m : RuledManoeuvre) → answer ≡ Ok m → Smallest own entries visibility wind desired c m
     is_smallest m q = go (sides.starboard || sides.port) refl
       where
-        of : (x : Choice) → chosen ≡ x → chosen_answer own.motion c x ≡ Of m → Smallest own entries visibility wind desired c m
-        of Choice.Nothing e r = absurd (answered-not-5 m (sym r))
-        of (Choice.Of y) e r = subst (Smallest own entries visibility wind desired c) (ap (which m) r) (smallest y (is_choice sides clears_by (trials least most) up y e))
+        of : (x : Option Chosen) → chosen ≡ x → chosen_answer own.motion c x ≡ Ok m → Smallest own entries visibility wind desired c m
+        of None e r = absurd (answered-not-5 m (sym r))
+        of (Some y) e r = subst (Smallest own entries visibility wind desired c) (ap (which m) r) (smallest y (is_choice sides clears_by (trials least most) up y e))
 
         go : (b : Bool) → sides.starboard || sides.port ≡ b → Smallest own entries visibility wind desired c m
         go true e = of chosen refl (sym (by_sides true e) ∙ q)
         go false e = absurd (answered-not-13 m (sym q ∙ by_sides false e))
 
-    five_if : (side : Side) × Shared own entries visibility wind desired c side → ((side : Side) (m : Float) → Shared own entries visibility wind desired c side → Trial own entries visibility wind desired c m → Clears own entries visibility wind desired c side m → ⊥) → answer ≡ Refused Why.NoTrialClears
+    five_if : (side : Side) × Shared own entries visibility wind desired c side → ((side : Side) (m : Float) → Shared own entries visibility wind desired c side → Trial own entries visibility wind desired c m → Clears own entries visibility wind desired c side m → ⊥) → answer ≡ Err Why.NoTrialClears
     five_if s none = go chosen refl
       where
-        go : (x : Choice) → chosen ≡ x → answer ≡ Refused Why.NoTrialClears
-        go Choice.Nothing e = with_side s.0 (shared_allows own visibility wind entries desired c s.0 s.1) ∙ ap (chosen_answer own.motion c) e
-        go (Choice.Of y) e =
+        go : (x : Option Chosen) → chosen ≡ x → answer ≡ Err Why.NoTrialClears
+        go None e = with_side s.0 (shared_allows own visibility wind entries desired c s.0 s.1) ∙ ap (chosen_answer own.motion c) e
+        go (Some y) e =
             let i = is_choice sides clears_by (trials least most) up y e in
             absurd (none y.side y.magnitude.0 (is_shared own visibility wind entries desired c y.side i.permitted) i.listed (is_clear y.side y.magnitude.0 i.listed y.passing i.clear))
 
-    otherwise : (answer ≡ Refused Why.NoSharedSide → ⊥) → (answer ≡ Refused Why.NoTrialClears → ⊥) → (m : RuledManoeuvre) × (answer ≡ Of m)
+    otherwise : (answer ≡ Err Why.NoSharedSide → ⊥) → (answer ≡ Err Why.NoTrialClears → ⊥) → (m : RuledManoeuvre) × (answer ≡ Ok m)
     otherwise not-13 not-5 = go (sides.starboard || sides.port) refl
       where
-        of : (x : Choice) → answer ≡ chosen_answer own.motion c x → (m : RuledManoeuvre) × (answer ≡ Of m)
-        of Choice.Nothing e = absurd (not-5 e)
-        of (Choice.Of y) e = (manoeuvre_of own.motion c y, e)
+        of : (x : Option Chosen) → answer ≡ chosen_answer own.motion c x → (m : RuledManoeuvre) × (answer ≡ Ok m)
+        of None e = absurd (not-5 e)
+        of (Some y) e = (manoeuvre_of own.motion c y, e)
 
-        go : (b : Bool) → sides.starboard || sides.port ≡ b → (m : RuledManoeuvre) × (answer ≡ Of m)
+        go : (b : Bool) → sides.starboard || sides.port ≡ b → (m : RuledManoeuvre) × (answer ≡ Ok m)
         go true e = of chosen (by_sides true e)
         go false e = absurd (not-13 (by_sides false e))
 

@@ -1,4 +1,5 @@
 -- The shared sides are those that the ruling on every contact permits.
+use Rattle.std.specs.Prelude.{Err, Ok}
 use mathlib.Core.Path.{◌≡◌, refl, sym, subst}
 use mathlib.Core.Logic.{⊎_elim}
 use mathlib.Core.List.Memᴰ
@@ -7,12 +8,14 @@ use lib.Dec.{T}
 use lib.Ieee.Fits.{and_l, and_r, and_i}
 use Rattle.laws.specs.Fold.{fold}
 use Rattle.situation.specs.declared.party.Party.{Party}
-use Rattle.situation.specs.declared.party.Perhaps.{Perhaps}
+use Rattle.colregs.specs.declared.answer.Ruling.{Ruling}
+use Rattle.std.specs.declared.option.Option.{Option}
+use Rattle.std.specs.declared.result.Result.{Result}
+use Rattle.elementary.specs.declared.error.Refusal.{Refusal}
+use Rattle.motion.specs.declared.units.Direction.{Direction}
 use Rattle.situation.specs.declared.party.Visibility.{Visibility}
 use Rattle.situation.specs.Situation.{standard}
 use Rattle.motion.specs.declared.units.Distance.{Distance}
-use Rattle.colregs.specs.declared.answer.RulingAnswer.{RulingAnswer}
-use Rattle.colregs.specs.declared.answer.RulingAnswer.TheVariants as RulingAnswer
 use Rattle.colregs.specs.Colregs.{ruling_answer}
 use Rattle.constraints.specs.declared.ManoeuvreConstraints.{ManoeuvreConstraints}
 use Rattle.manoeuvre.specs.declared.Side.{Side}
@@ -37,7 +40,7 @@ either-allows : (side : Side) → T (allows either side)
 either-allows Starboard = tt
 either-allows Port = tt
 
-module _ (own : Party) (visibility : Visibility) (wind : Perhaps) where
+module _ (own : Party) (visibility : Visibility) (wind : Option Direction) where
   abbrev join : Sides → Entry → Sides
   join = join_sides own visibility wind
 
@@ -61,11 +64,11 @@ module _ (own : Party) (visibility : Visibility) (wind : Perhaps) where
     unfolding sides_of
     by_ruling e side t = go (ruling_answer (situation_of own visibility wind e) standard) refl side t
       where
-        go : (a : RulingAnswer) → ruling_answer (situation_of own visibility wind e) standard ≡ a → (side : Side) → T (allows (permitted_by a) side) → Ruled own entries visibility wind desired c e side
-        go (RulingAnswer.Of r) q Starboard t = record { ruling = r; answer = q; permits = t }
-        go (RulingAnswer.Of r) q Port t = record { ruling = r; answer = q; permits = t }
-        go (RulingAnswer.Refused why) q Starboard t = absurd t
-        go (RulingAnswer.Refused why) q Port t = absurd t
+        go : (a : Result Ruling Refusal) → ruling_answer (situation_of own visibility wind e) standard ≡ a → (side : Side) → T (allows (permitted_by a) side) → Ruled own entries visibility wind desired c e side
+        go (Ok r) q Starboard t = record { ruling = r; answer = q; permits = t }
+        go (Ok r) q Port t = record { ruling = r; answer = q; permits = t }
+        go (Err why) q Starboard t = absurd t
+        go (Err why) q Port t = absurd t
 
     of_ruling : (e : Entry) (side : Side) → Ruled own entries visibility wind desired c e side → T (allows (sides_of own visibility wind e) side)
     unfolding sides_of

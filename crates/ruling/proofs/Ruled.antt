@@ -1,11 +1,10 @@
--- What the code of the ruling owes: its parts, and its answers by the verdict v on the arguments.
+-- What the code of the ruling owes: its parts, and its answers by the verdict on the arguments.
+use Rattle.std.specs.Prelude.{Err, Ok}
 use mathlib.Core.Path.{◌≡◌, refl, sym, ap, ◌∙◌}
 use mathlib.Core.List.{◌++◌}
 use Rattle.elementary.specs.declared.error.Refusal.{Refusal}
-use Rattle.arguments.specs.declared.Verdict.{Verdict}
-use Rattle.arguments.specs.declared.Verdict.TheVariants as Verdict
-use Rattle.arguments.specs.Check.{verdict}
-use Rattle.arguments.proofs.Checks.{verdict_joined}
+use Rattle.std.specs.declared.result.Result.{Result}
+use Rattle.arguments.specs.Check.{checked}
 use Rattle.situation.specs.declared.party.Situation.{Situation}
 use Rattle.situation.specs.declared.config.ColregsConfig.{ColregsConfig}
 use Rattle.facts.specs.declared.Facts.{Facts}
@@ -15,20 +14,16 @@ use Rattle.colregs.specs.declared.answer.Encounter.{Encounter}
 use Rattle.colregs.specs.declared.answer.Decision.{Decision}
 use Rattle.colregs.specs.declared.answer.PermittedManoeuvre.{PermittedManoeuvre}
 use Rattle.colregs.specs.declared.answer.Ruling.{Ruling}
-use Rattle.colregs.specs.declared.answer.RulingAnswer.TheVariants.{Of, Refused}
 use Rattle.colregs.specs.Colregs.{encounter_of, decided, clauses, permitted, ruling_for, ruling_of, ruling_by, ruling_answer}
 
-module _ (s : Situation) (config : ColregsConfig) (w v : Verdict) (is-w : w ≡ verdict (config_checks config) Verdict.Accepted) (is-v : v ≡ verdict (situation_checks s) w) where
-  checked : v ≡ verdict (situation_checks s ++ config_checks config) Verdict.Accepted
-  checked = is-v ∙ ap (verdict (situation_checks s)) is-w ∙ sym (verdict_joined (situation_checks s) (config_checks config) Verdict.Accepted)
-
-  pub ruled : (f : Facts) (r : Ruling) → v ≡ Verdict.Accepted → f ≡ facts_of s → r ≡ ruling_of config f → Of r ≡ ruling_answer s config
+module _ (s : Situation) (config : ColregsConfig) where
+  pub ruled : (f : Facts) (r : Ruling) → Ok tt ≡ checked (situation_checks s ++ config_checks config) → f ≡ facts_of s → r ≡ ruling_of config f → Ok r ≡ ruling_answer s config
   unfolding ruling_answer
-  ruled f r h is_f is-r = ap Of (is-r ∙ ap (ruling_of config) is_f) ∙ ap (λ v. ruling_by v (ruling_of config (facts_of s))) (sym h ∙ checked)
+  ruled f r h is_f is-r = ap Ok (is-r ∙ ap (ruling_of config) is_f) ∙ ap (λ v. ruling_by v (ruling_of config (facts_of s))) h
 
-  pub refused : (why : Refusal) → v ≡ Verdict.Refused why → Refused why ≡ ruling_answer s config
+  pub refused : (why : Refusal) → Err why ≡ checked (situation_checks s ++ config_checks config) → Err why ≡ ruling_answer s config
   unfolding ruling_answer
-  refused why h = ap (λ v. ruling_by v (ruling_of config (facts_of s))) (sym h ∙ checked)
+  refused why h = ap (λ v. ruling_by v (ruling_of config (facts_of s))) h
 
 -- ---- the ruling, from its parts
 pub ruling_is : (config : ColregsConfig) (f : Facts) (e : Encounter) (d : Decision) (m : PermittedManoeuvre) → e ≡ encounter_of config f → d ≡ decided (clauses e f) → m ≡ permitted e d f.relative

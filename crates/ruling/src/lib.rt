@@ -5,11 +5,9 @@
 ghost use Rattle.std.specs.Prelude.{◌≡◌};
 ghost use Rattle.colregs.specs.Colregs as Spec;
 
-use arguments::Verdict;
-use colregs::answer::{
-    Decision, Encounter, PermittedManoeuvre, Responsibility, Rule, Ruling, RulingAnswer,
-};
+use colregs::answer::{Decision, Encounter, PermittedManoeuvre, Responsibility, Rule, Ruling};
 use colregs::encounter;
+use elementary::error::Refusal;
 use facts::Facts;
 use situation::check;
 use situation::config::ColregsConfig;
@@ -18,34 +16,19 @@ use situation::party::Situation;
 fn is_stand_on(duty: Responsibility) -> bool
     ensures { result ≡ Spec.is_stand_on duty }
 {
-    match duty {
-        Responsibility::StandOn => true,
-        Responsibility::GiveWay => false,
-        Responsibility::Both => false,
-        Responsibility::Undetermined => false,
-    }
+    matches!(duty, Responsibility::StandOn)
 }
 
 fn is_crossing(e: Encounter) -> bool
     ensures { result ≡ Spec.is_crossing e }
 {
-    match e {
-        Encounter::Crossing { target_on } => true,
-        Encounter::Overtaking => false,
-        Encounter::BeingOvertaken => false,
-        Encounter::HeadOn => false,
-    }
+    matches!(e, Encounter::Crossing { .. })
 }
 
 fn is_overtaking(e: Encounter) -> bool
     ensures { result ≡ Spec.is_overtaking e }
 {
-    match e {
-        Encounter::Overtaking => true,
-        Encounter::BeingOvertaken => false,
-        Encounter::HeadOn => false,
-        Encounter::Crossing { target_on } => false,
-    }
+    matches!(e, Encounter::Overtaking)
 }
 
 fn forward_of_beam(relative: f64) -> bool
@@ -114,13 +97,11 @@ fn port_by(rule: Rule, e: Encounter, duty: Responsibility, relative: f64) -> boo
 fn permitted(e: Encounter, d: Decision, relative: f64) -> PermittedManoeuvre
     ensures { result ≡ Spec.permitted e d relative }
 {
-    let rule = d.rule;
-    let duty = d.responsibility;
     PermittedManoeuvre {
-        starboard: starboard_by(rule, relative),
-        port: port_by(rule, e, duty, relative),
+        starboard: starboard_by(d.rule, relative),
+        port: port_by(d.rule, e, d.responsibility, relative),
         slow_down: true,
-        hold: is_stand_on(duty),
+        hold: is_stand_on(d.responsibility),
     }
 }
 
@@ -130,24 +111,19 @@ pub fn ruling_of(config: ColregsConfig, f: Facts) -> Ruling
 {
     let e = encounter::encounter_of(config, f);
     let d = duties::decided(e, f);
-    let manoeuvre = permitted(e, d, f.relative);
-    let duty = d.responsibility;
-    let rule = d.rule;
     Ruling {
         encounter: e,
-        responsibility: duty,
-        rule: rule,
-        manoeuvre: manoeuvre,
+        responsibility: d.responsibility,
+        rule: d.rule,
+        manoeuvre: permitted(e, d, f.relative),
     }
 }
 
 // The ruling on a situation. Arguments are checked in document 01's order: own craft, the contact, the target, the wind, the widths.
-pub fn rule_of_the_road(s: Situation, config: ColregsConfig) -> RulingAnswer
+pub fn rule_of_the_road(s: Situation, config: ColregsConfig) -> Result<Ruling, Refusal>
     ensures { result ≡ Spec.ruling_answer s config }
 {
-    let verdict = check::check_situation(s, check::check_config(config, Verdict::Accepted));
-    match verdict {
-        Verdict::Accepted => RulingAnswer::Of(ruling_of(config, facts::facts_of(s))),
-        Verdict::Refused(why) => RulingAnswer::Refused(why),
-    }
+    check::check_situation(s)?;
+    check::check_config(config)?;
+    Ok(ruling_of(config, facts::facts_of(s)))
 }

@@ -2,11 +2,8 @@
 use Rattle.std.specs.Prelude.{List, ℕ}
 use Rattle.text.specs.Text.{bytes}
 use Rattle.colregs.specs.declared.answer.Side.{Side}
-use Rattle.colregs.specs.declared.answer.Side.TheVariants as Side
 use Rattle.colregs.specs.declared.answer.Encounter.{Encounter}
-use Rattle.colregs.specs.declared.answer.Encounter.TheVariants as Encounter
 use Rattle.colregs.specs.declared.answer.Responsibility.{Responsibility}
-use Rattle.colregs.specs.declared.answer.Responsibility.TheVariants as Responsibility
 
 -- by the side of own craft on which the target is
 abbrev pub crossing_field : Side → List ℕ

@@ -11,9 +11,7 @@ use Rattle.situation.specs.declared.party.Visibility.TheVariants.{InSight, Restr
 use Rattle.situation.specs.declared.party.VesselCategory.{VesselCategory}
 use Rattle.situation.specs.declared.party.VesselCategory.TheVariants.{PowerDriven, Sailing, Fishing, ConstrainedByDraught, RestrictedInAbilityToManoeuvre, NotUnderCommand}
 use Rattle.situation.specs.declared.party.Tack.{Tack}
-use Rattle.situation.specs.declared.party.Tack.TheVariants as Tack
 use Rattle.facts.specs.declared.Windward.{Windward}
-use Rattle.facts.specs.declared.Windward.TheVariants as Windward
 use Rattle.situation.specs.declared.config.ColregsConfig.{ColregsConfig}
 use Rattle.facts.specs.declared.Facts.{Facts}
 use Rattle.colregs.specs.declared.answer.Side.{Side}

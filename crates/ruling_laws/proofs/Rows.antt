@@ -1,4 +1,5 @@
 -- Rows of a table of rulings: a situation, and what the ruling on it must be.
+use Rattle.std.specs.Prelude.{Err, Ok}
 use mathlib.Core.Bool.{Bool, true, false}
 use Prim.Native.Nat.{ℕ, ◌+◌, ◌*◌}
 use lib.IntN.{pos}
@@ -21,8 +22,9 @@ use Rattle.colregs.specs.declared.answer.Encounter.TheVariants.{Overtaking, Bein
 use Rattle.colregs.specs.declared.answer.Responsibility.{Responsibility}
 use Rattle.colregs.specs.declared.answer.Responsibility.TheVariants.{GiveWay, StandOn, Both, Undetermined}
 use Rattle.colregs.specs.declared.answer.Rule.{Rule}
-use Rattle.colregs.specs.declared.answer.RulingAnswer.{RulingAnswer}
-use Rattle.colregs.specs.declared.answer.RulingAnswer.TheVariants.{Of, Refused}
+use Rattle.colregs.specs.declared.answer.Ruling.{Ruling}
+use Rattle.std.specs.declared.result.Result.{Result}
+use Rattle.elementary.specs.declared.error.Refusal.{Refusal}
 use Rattle.colregs.specs.Ruling.{rule_number}
 use Rattle.colregs.specs.Colregs.{ruling_answer}
 
@@ -80,9 +82,9 @@ bit false = 0
 abbrev code : Encounter → Responsibility → Rule → Bool → Bool → ℕ
 code e duty rule starboard port = 100000 + (((encounter_code e * 10 + duty_code duty) * 100 + rule_number rule) * 10 + bit starboard) * 10 + bit port
 
-abbrev code_of : RulingAnswer → ℕ
-code_of (Of r) = code r.encounter r.responsibility r.rule r.manoeuvre.starboard r.manoeuvre.port
-code_of (Refused why) = number_of why
+abbrev code_of : Result Ruling Refusal → ℕ
+code_of (Ok r) = code r.encounter r.responsibility r.rule r.manoeuvre.starboard r.manoeuvre.port
+code_of (Err why) = number_of why
 
 abbrev pub rules : Situation → Encounter → Responsibility → Rule → Bool → Bool → Row
 rules s e duty rule starboard port = row (code_of (ruling_answer s standard)) (code e duty rule starboard port)

@@ -1,4 +1,5 @@
 -- Two sailing vessels on known tacks, the wind known: some vessel keeps out of the way.
+use Rattle.std.specs.Prelude.{None, Some}
 use mathlib.Core.Bool.{Bool, true, false, cond}
 use lib.Dec.{T}
 use lib.Ieee.{lt}
@@ -7,18 +8,16 @@ use Rattle.math.specs.Sign.{abs}
 use Rattle.angle.specs.Fold.{half_turn, half_fold}
 use Rattle.motion.specs.declared.vessel.Contact.{Contact}
 use Rattle.situation.specs.declared.party.Tack.{Tack}
-use Rattle.situation.specs.declared.party.Tack.TheVariants as Tack
 use Rattle.situation.specs.declared.party.VesselCategory.{VesselCategory}
 use Rattle.situation.specs.declared.party.VesselCategory.TheVariants.{PowerDriven, Sailing, Fishing, ConstrainedByDraught, RestrictedInAbilityToManoeuvre, NotUnderCommand}
-use Rattle.situation.specs.declared.party.Perhaps.{Perhaps}
-use Rattle.situation.specs.declared.party.Perhaps.TheVariants as Perhaps
+use Rattle.std.specs.declared.option.Option.{Option}
+use Rattle.motion.specs.declared.units.Direction.{Direction}
 use Rattle.situation.specs.declared.party.Situation.{Situation}
 use Rattle.situation.specs.declared.party.Visibility.{Visibility}
 use Rattle.situation.specs.declared.party.Visibility.TheVariants.{InSight, Restricted}
 use Rattle.situation.specs.declared.config.ColregsConfig.{ColregsConfig}
 use Rattle.situation.specs.Arguments.{quarter_turn}
 use Rattle.facts.specs.declared.Windward.{Windward}
-use Rattle.facts.specs.declared.Windward.TheVariants as Windward
 use Rattle.facts.specs.Facts.{windward_of, facts_of}
 use Rattle.colregs.specs.declared.answer.Encounter.{Encounter}
 use Rattle.colregs.specs.declared.answer.Encounter.TheVariants.{Overtaking, BeingOvertaken, HeadOn, Crossing}
@@ -96,9 +95,9 @@ module _ (e : Encounter) (w : Windward) (k : told w) where
   ranked (Sailing a) NotUnderCommand ha hb = absurd hb
 
 -- ---- the wind
-windward_told : (c : Contact) (p : Perhaps) → T (is_known p) → told (windward_of c p)
-windward_told c Perhaps.Unknown h = absurd h
-windward_told c (Perhaps.Known from) h = go (lt (abs (half_fold (c.bearing.0 ⊖ (from.0 ⊕ half_turn)))) quarter_turn)
+windward_told : (c : Contact) (p : Option Direction) → T (is_known p) → told (windward_of c p)
+windward_told c None h = absurd h
+windward_told c (Some from) h = go (lt (abs (half_fold (c.bearing.0 ⊖ (from.0 ⊕ half_turn)))) quarter_turn)
   where
     go : (b : Bool) → told (cond b Windward.Own Windward.Target)
     go true = tt

@@ -1,10 +1,10 @@
 -- When a ruling says who keeps out of the way. Two sailing vessels whose tacks are known are left undetermined only where the wind is unknown, which is why a sheet tells it (request R-1).
-use Rattle.std.specs.Prelude.{Bool, true, false, T}
+use Rattle.std.specs.Prelude.{Bool, true, false, T, None, Some}
 use Rattle.situation.specs.declared.party.Tack.TheVariants as Tack
 use Rattle.situation.specs.declared.party.VesselCategory.{VesselCategory}
 use Rattle.situation.specs.declared.party.VesselCategory.TheVariants.{PowerDriven, Sailing, Fishing, ConstrainedByDraught, RestrictedInAbilityToManoeuvre, NotUnderCommand}
-use Rattle.situation.specs.declared.party.Perhaps.{Perhaps}
-use Rattle.situation.specs.declared.party.Perhaps.TheVariants as Perhaps
+use Rattle.std.specs.declared.option.Option.{Option}
+use Rattle.motion.specs.declared.units.Direction.{Direction}
 use Rattle.situation.specs.declared.party.Situation.{Situation}
 use Rattle.situation.specs.declared.config.ColregsConfig.{ColregsConfig}
 use Rattle.facts.specs.Facts.{facts_of}
@@ -29,9 +29,9 @@ on_tack ConstrainedByDraught = false
 on_tack RestrictedInAbilityToManoeuvre = false
 on_tack NotUnderCommand = false
 
-abbrev pub is_known : Perhaps → Bool
-is_known Perhaps.Unknown = false
-is_known (Perhaps.Known d) = true
+abbrev pub is_known : Option Direction → Bool
+is_known None = false
+is_known (Some d) = true
 
 abbrev pub Settled : ColregsConfig → Situation → Type 0
 Settled config s = T (on_tack s.own.category) → T (on_tack s.target.category) → T (is_known s.wind_from) → T (is_settled (ruling_of config (facts_of s)).responsibility)

@@ -1,5 +1,5 @@
 -- Rulings as the C exports give them: words.
-use Rattle.std.specs.Prelude.{Bool, true, false, cond, ℕ, eqb}
+use Rattle.std.specs.Prelude.{Bool, true, false, cond, ℕ, eqb, Err, Ok}
 use Rattle.elementary.specs.Refusal.{number_of}
 use Rattle.elementary.specs.declared.error.Refusal.{Refusal}
 use Rattle.colregs.specs.declared.answer.Side.TheVariants as Side
@@ -8,8 +8,7 @@ use Rattle.colregs.specs.declared.answer.Encounter.TheVariants.{Overtaking, Bein
 use Rattle.colregs.specs.declared.answer.Responsibility.{Responsibility}
 use Rattle.colregs.specs.declared.answer.Responsibility.TheVariants.{GiveWay, StandOn, Both, Undetermined}
 use Rattle.colregs.specs.declared.answer.Ruling.{Ruling}
-use Rattle.colregs.specs.declared.answer.RulingAnswer.{RulingAnswer}
-use Rattle.colregs.specs.declared.answer.RulingAnswer.TheVariants as RulingAnswer
+use Rattle.std.specs.declared.result.Result.{Result}
 use Rattle.colregs.specs.Ruling.{rule_number}
 use Rattle.ruling_words.specs.declared.Words.{Words}
 
@@ -56,6 +55,6 @@ ruled r = record {
 unfoldable pub refused : Refusal → Words
 refused why = record { number = number_of why; encounter = 0; responsibility = 0; rule = 0; starboard = 0; port = 0; slow = 0; hold = 0 }
 
-abbrev pub ruling_words : RulingAnswer → Words
-ruling_words (RulingAnswer.Of r) = ruled r
-ruling_words (RulingAnswer.Refused why) = refused why
+abbrev pub ruling_words : Result Ruling Refusal → Words
+ruling_words (Ok r) = ruled r
+ruling_words (Err why) = refused why

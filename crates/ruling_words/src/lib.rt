@@ -5,7 +5,7 @@
 ghost use Rattle.std.specs.Prelude.{◌≡◌};
 ghost use Rattle.ruling_words.specs.Words as Spec;
 
-use colregs::answer::{Encounter, Responsibility, Ruling, RulingAnswer, Side};
+use colregs::answer::{Encounter, Responsibility, Ruling, Side};
 use elementary::error::Refusal;
 
 // The number of a refusal, and the ruling.
@@ -118,11 +118,11 @@ fn refused(why: Refusal) -> Words
 }
 
 // The words of an answer.
-pub fn ruling_words(answer: RulingAnswer) -> Words
+pub fn ruling_words(answer: Result<Ruling, Refusal>) -> Words
     ensures { result ≡ Spec.ruling_words answer }
 {
     match answer {
-        RulingAnswer::Of(r) => ruled(r),
-        RulingAnswer::Refused(why) => refused(why),
+        Ok(r) => ruled(r),
+        Err(why) => refused(why),
     }
 }

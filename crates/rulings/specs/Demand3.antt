@@ -1,5 +1,5 @@
 -- Demand 3 of the order, a field for each of its clauses, in terms of `trials`, `rule_of_the_road`, `closest_point_of_approach` and the list of contacts alone.
-use Rattle.std.specs.Prelude.{◌≡◌, ℕ, length, T, Float}
+use Rattle.std.specs.Prelude.{◌≡◌, ℕ, length, T, Float, None, Some, Err, Ok}
 use mathlib.Core.List.{List, [], ◌∷◌, ◌++◌, Memᴰ}
 use Rattle.std.specs.Float.Ieee.{eq, lt, le}
 use Rattle.laws.specs.Ops.{◌⊕◌}
@@ -8,24 +8,20 @@ use Rattle.elementary.specs.declared.error.Refusal.{Refusal}
 use Rattle.elementary.specs.declared.error.Refusal.TheVariants as Why
 use Rattle.motion.specs.declared.units.Distance.{Distance}
 use Rattle.motion.specs.declared.vessel.Vessel.{Vessel}
-use Rattle.arguments.specs.declared.Verdict.TheVariants as Verdict
+use Rattle.std.specs.declared.option.Option.{Option}
+use Rattle.std.specs.declared.result.Result.{Result}
+use Rattle.motion.specs.declared.units.Direction.{Direction}
 use Rattle.arguments.specs.Check.{verdict}
 use Rattle.relative_motion.specs.declared.approach.Cpa.{Cpa}
 use Rattle.relative_motion.specs.declared.approach.Approach.{Approach}
-use Rattle.relative_motion.specs.declared.approach.Approach.TheVariants as Approach
-use Rattle.relative_motion.specs.declared.approach.CpaAnswer.{CpaAnswer}
-use Rattle.relative_motion.specs.declared.approach.CpaAnswer.TheVariants as CpaAnswer
 use Rattle.relative_motion.specs.Approach.{cpa_answer}
 use Rattle.situation.specs.declared.party.Party.{Party}
-use Rattle.situation.specs.declared.party.Perhaps.{Perhaps}
 use Rattle.situation.specs.declared.party.Visibility.{Visibility}
 use Rattle.situation.specs.Situation.{standard}
 use Rattle.colregs.specs.declared.answer.Ruling.{Ruling}
-use Rattle.colregs.specs.declared.answer.RulingAnswer.TheVariants as RulingAnswer
 use Rattle.colregs.specs.Colregs.{ruling_answer}
 use Rattle.manoeuvre.specs.declared.Side.{Side}
 use Rattle.manoeuvre.specs.declared.Side.TheVariants.{Starboard, Port}
-use Rattle.manoeuvre.specs.declared.Limiting.TheVariants as Limiting
 use Rattle.constraints.specs.declared.ManoeuvreConstraints.{ManoeuvreConstraints}
 use Rattle.manoeuvre.specs.Manoeuvre.{turn_time}
 use Rattle.trials.specs.Trials.{trials}
@@ -33,8 +29,6 @@ use Rattle.clearing.specs.Clearing.{largest, floor_of, altered}
 use Rattle.choice.specs.Choice.{signed}
 use Rattle.traffic.specs.declared.Entry.{Entry}
 use Rattle.rulings.specs.declared.RuledManoeuvre.{RuledManoeuvre}
-use Rattle.rulings.specs.declared.RuledAnswer.{RuledAnswer}
-use Rattle.rulings.specs.declared.RuledAnswer.TheVariants.{Of, Refused}
 use Rattle.rulings.specs.Ruled.{situation_of, ruled_checks}
 
 abbrev pub Permits : Side → Ruling → Type 0
@@ -42,13 +36,13 @@ Permits Starboard r = T r.manoeuvre.starboard
 Permits Port r = T r.manoeuvre.port
 
 -- 'its CPA on that course if closing there, else its present range'
-abbrev pub passing_by : CpaAnswer → Distance → Distance
-passing_by (CpaAnswer.Of (Approach.Closing cpa)) range = cpa.distance
-passing_by (CpaAnswer.Of (Approach.Opening r)) range = range
-passing_by (CpaAnswer.Of (Approach.Stationary r)) range = range
-passing_by (CpaAnswer.Refused why) range = range
+abbrev pub passing_by : Result Approach Refusal → Distance → Distance
+passing_by (Ok (Approach.Closing cpa)) range = cpa.distance
+passing_by (Ok (Approach.Opening r)) range = range
+passing_by (Ok (Approach.Stationary r)) range = range
+passing_by (Err why) range = range
 
-abbrev pub approach_to : Vessel → Entry → CpaAnswer
+abbrev pub approach_to : Vessel → Entry → Result Approach Refusal
 approach_to v e = cpa_answer v e.contact e.target.motion
 
 abbrev pub passing_distance : Vessel → Entry → Distance
@@ -57,7 +51,7 @@ passing_distance v e = passing_by (approach_to v e) e.contact.range
 -- a contact closes under desired minus 1e-9
 pub record ClosesUnder (desired : Distance) (v : Vessel) (e : Entry) : Type 0 where
   pub cpa : Cpa
-  pub closing : approach_to v e ≡ CpaAnswer.Of (Approach.Closing cpa)
+  pub closing : approach_to v e ≡ Ok (Approach.Closing cpa)
   pub under : T (lt cpa.distance.0 (floor_of desired))
 
 -- the first contact of a list that passes at a distance
@@ -70,11 +64,11 @@ pub record FirstAt (contacts : List Entry) (v : Vessel) (d : Distance) (place : 
   pub passes : passing_distance v it ≡ d
   pub earlier : (e : Entry) → Memᴰ e before → T (lt d.0 (passing_distance v e).0)
 
-module _ (own : Party) (contacts : List Entry) (visibility : Visibility) (wind : Perhaps) (desired : Distance) (c : ManoeuvreConstraints) where
+module _ (own : Party) (contacts : List Entry) (visibility : Visibility) (wind : Option Direction) (desired : Distance) (c : ManoeuvreConstraints) where
   -- 'the rulings share' a side: the ruling on every contact permits it
   pub record Ruled (e : Entry) (side : Side) : Type 0 where
     pub ruling : Ruling
-    pub answer : ruling_answer (situation_of own visibility wind e) standard ≡ RulingAnswer.Of ruling
+    pub answer : ruling_answer (situation_of own visibility wind e) standard ≡ Ok ruling
     pub permits : Permits side ruling
 
   abbrev pub Shared : Side → Type 0
@@ -111,31 +105,31 @@ module _ (own : Party) (contacts : List Entry) (visibility : Visibility) (wind :
     -- the largest f64 if there are none;
     pub free : contacts ≡ [] → m.passing.0 ≡ largest
     -- its limiting contact is the first with that distance,
-    pub limiting : (contacts ≡ [] → ⊥) → (place : ℕ) × (m.limiting ≡ Limiting.Contact place) × FirstAt contacts (on m.side m.magnitude.0) m.passing place
+    pub limiting : (contacts ≡ [] → ⊥) → (place : ℕ) × (m.limiting ≡ Some place) × FirstAt contacts (on m.side m.magnitude.0) m.passing place
     -- none if there are none'
-    pub nobody : contacts ≡ [] → m.limiting ≡ Limiting.Nobody
+    pub nobody : contacts ≡ [] → m.limiting ≡ None
     -- the turn takes its time at the rate of the constraints
     pub turn_time : m.turn_time ≡ turn_time m.magnitude.0 c.rate_of_turn
 
   -- 'if 01's argument checks accept them'
-  pub record OnAccepted (answer : RuledAnswer) : Type 0 where
+  pub record OnAccepted (answer : Result RuledManoeuvre Refusal) : Type 0 where
     -- every contact has a ruling
-    pub each_ruled : (e : Entry) → Memᴰ e contacts → (r : Ruling) × (ruling_answer (situation_of own visibility wind e) standard ≡ RulingAnswer.Of r)
+    pub each_ruled : (e : Entry) → Memᴰ e contacts → (r : Ruling) × (ruling_answer (situation_of own visibility wind e) standard ≡ Ok r)
     -- and on every trial's course `closest_point_of_approach` answers for it, so that 'no contact closes' is never said of a refusal
-    pub each_approach : (side : Side) (m : Float) → Trial m → (e : Entry) → Memᴰ e contacts → (a : Approach) × (approach_to (on side m) e ≡ CpaAnswer.Of a)
+    pub each_approach : (side : Side) (m : Float) → Trial m → (e : Entry) → Memᴰ e contacts → (a : Approach) × (approach_to (on side m) e ≡ Ok a)
     -- 'the ruled search refuses with 13 exactly if the rulings share no side,
-    pub no_side : answer ≡ Refused Why.NoSharedSide → (side : Side) → Shared side → ⊥
-    pub «13_if» : ((side : Side) → Shared side → ⊥) → answer ≡ Refused Why.NoSharedSide
+    pub no_side : answer ≡ Err Why.NoSharedSide → (side : Side) → Shared side → ⊥
+    pub «13_if» : ((side : Side) → Shared side → ⊥) → answer ≡ Err Why.NoSharedSide
     -- and otherwise with 5 exactly if no trial on a shared side clears'
-    pub some_side : answer ≡ Refused Why.NoTrialClears → (side : Side) × Shared side
-    pub no_trial : answer ≡ Refused Why.NoTrialClears → (side : Side) (m : Float) → Shared side → Trial m → Clears side m → ⊥
-    pub «5_if» : (side : Side) × Shared side → ((side : Side) (m : Float) → Shared side → Trial m → Clears side m → ⊥) → answer ≡ Refused Why.NoTrialClears
+    pub some_side : answer ≡ Err Why.NoTrialClears → (side : Side) × Shared side
+    pub no_trial : answer ≡ Err Why.NoTrialClears → (side : Side) (m : Float) → Shared side → Trial m → Clears side m → ⊥
+    pub «5_if» : (side : Side) × Shared side → ((side : Side) (m : Float) → Shared side → Trial m → Clears side m → ⊥) → answer ≡ Err Why.NoTrialClears
     -- 'in every other case it returns a trial …'
-    pub otherwise : (answer ≡ Refused Why.NoSharedSide → ⊥) → (answer ≡ Refused Why.NoTrialClears → ⊥) → (m : RuledManoeuvre) × (answer ≡ Of m)
+    pub otherwise : (answer ≡ Err Why.NoSharedSide → ⊥) → (answer ≡ Err Why.NoTrialClears → ⊥) → (m : RuledManoeuvre) × (answer ≡ Ok m)
     -- and whatever it returns is such a trial
-    pub smallest : (m : RuledManoeuvre) → answer ≡ Of m → Smallest m
+    pub smallest : (m : RuledManoeuvre) → answer ≡ Ok m → Smallest m
 
   -- 'whatever the own craft, contacts, visibility, wind, desired distance and constraints': the first bad argument decides, and with none bad the clauses hold
-  pub record Demand3 (count : ℕ) (answer : RuledAnswer) : Type 0 where
-    pub refused : (why : Refusal) → verdict (ruled_checks own count contacts wind desired c) Verdict.Accepted ≡ Verdict.Refused why → answer ≡ Refused why
-    pub accepted : verdict (ruled_checks own count contacts wind desired c) Verdict.Accepted ≡ Verdict.Accepted → OnAccepted answer
+  pub record Demand3 (count : ℕ) (answer : Result RuledManoeuvre Refusal) : Type 0 where
+    pub refused : (why : Refusal) → verdict (ruled_checks own count contacts wind desired c) (Ok tt) ≡ Err why → answer ≡ Err why
+    pub accepted : verdict (ruled_checks own count contacts wind desired c) (Ok tt) ≡ (Ok tt) → OnAccepted answer

@@ -1,21 +1,21 @@
 -- The ruled search (01, 'Trial list': 'a side is permitted, or shared, if `rule_of_the_road` … permits it for every contact, standard config (both sides without contacts); the caller's own sides take no part; no seeds. All its contacts share own craft, visibility and wind').
-use Rattle.std.specs.Prelude.{Bool, true, false, ◌&&◌, ◌||◌, cond, List, ◌++◌, map, ℕ}
+use Rattle.std.specs.Prelude.{true, false, ◌&&◌, ◌||◌, cond, List, ◌++◌, map, ℕ, None, Some, Err, Ok}
 use Rattle.laws.specs.Fold.{fold}
 use Rattle.elementary.specs.Refusal.{number_of}
 use Rattle.elementary.specs.declared.error.Refusal.TheVariants as Why
 use Rattle.motion.specs.declared.units.Distance.{Distance}
 use Rattle.motion.specs.declared.vessel.Vessel.{Vessel}
-use Rattle.arguments.specs.declared.Verdict.{Verdict}
-use Rattle.arguments.specs.declared.Verdict.TheVariants as Verdict
+use Rattle.colregs.specs.declared.answer.Ruling.{Ruling}
+use Rattle.std.specs.declared.option.Option.{Option}
+use Rattle.std.specs.declared.result.Result.{Result}
+use Rattle.elementary.specs.declared.error.Refusal.{Refusal}
+use Rattle.motion.specs.declared.units.Direction.{Direction}
 use Rattle.arguments.specs.Check.{Check, verdict, distance_checks}
 use Rattle.situation.specs.declared.party.Party.{Party}
-use Rattle.situation.specs.declared.party.Perhaps.{Perhaps}
 use Rattle.situation.specs.declared.party.Visibility.{Visibility}
 use Rattle.situation.specs.declared.party.Situation.{Situation}
 use Rattle.situation.specs.Situation.{standard}
 use Rattle.situation.specs.Arguments.{perhaps_checks, party_checks}
-use Rattle.colregs.specs.declared.answer.RulingAnswer.{RulingAnswer}
-use Rattle.colregs.specs.declared.answer.RulingAnswer.TheVariants as RulingAnswer
 use Rattle.colregs.specs.Colregs.{ruling_answer}
 use Rattle.constraints.specs.declared.ManoeuvreConstraints.{ManoeuvreConstraints}
 use Rattle.constraints.specs.Constraints.{constraint_checks}
@@ -23,25 +23,20 @@ use Rattle.manoeuvre.specs.Manoeuvre.{turn_time}
 use Rattle.clearing.specs.Clearing.{altered, floor_of, moving}
 use Rattle.choice.specs.declared.Sides.{Sides}
 use Rattle.choice.specs.declared.Chosen.{Chosen}
-use Rattle.choice.specs.declared.Choice.{Choice}
-use Rattle.choice.specs.declared.Choice.TheVariants as Choice
 use Rattle.choice.specs.Choice.{signed, choice_for, smallest}
 use Rattle.traffic.specs.declared.Entry.{Entry}
-use Rattle.traffic.specs.declared.Traffic.{Traffic}
-use Rattle.traffic.specs.Traffic.{contacts, target_of, count_checks, contacts_checks}
+use Rattle.traffic.specs.Traffic.{target_of, count_checks, contacts_checks}
 use Rattle.rulings.specs.declared.RuledManoeuvre.{RuledManoeuvre}
-use Rattle.rulings.specs.declared.RuledAnswer.{RuledAnswer}
-use Rattle.rulings.specs.declared.RuledAnswer.TheVariants.{Of, Refused}
 
 -- ---- the sides
-abbrev pub situation_of : Party → Visibility → Perhaps → Entry → Situation
+abbrev pub situation_of : Party → Visibility → Option Direction → Entry → Situation
 situation_of own visibility wind e = record { own = own; target = e.target; contact = e.contact; visibility = visibility; wind_from = wind }
 
-abbrev pub permitted_by : RulingAnswer → Sides
-permitted_by (RulingAnswer.Of r) = record { starboard = r.manoeuvre.starboard; port = r.manoeuvre.port }
-permitted_by (RulingAnswer.Refused why) = record { starboard = false; port = false }
+abbrev pub permitted_by : Result Ruling Refusal → Sides
+permitted_by (Ok r) = record { starboard = r.manoeuvre.starboard; port = r.manoeuvre.port }
+permitted_by (Err why) = record { starboard = false; port = false }
 
-unfoldable pub sides_of : Party → Visibility → Perhaps → Entry → Sides
+unfoldable pub sides_of : Party → Visibility → Option Direction → Entry → Sides
 sides_of own visibility wind e = permitted_by (ruling_answer (situation_of own visibility wind e) standard)
 
 unfoldable pub in_both : Sides → Sides → Sides
@@ -50,14 +45,14 @@ in_both a b = record { starboard = a.starboard && b.starboard; port = a.port && 
 abbrev pub either : Sides
 either = record { starboard = true; port = true }
 
-abbrev pub join_sides : Party → Visibility → Perhaps → Sides → Entry → Sides
+abbrev pub join_sides : Party → Visibility → Option Direction → Sides → Entry → Sides
 join_sides own visibility wind s e = in_both s (sides_of own visibility wind e)
 
-unfoldable pub shared_sides : Party → Visibility → Perhaps → List Entry → Sides
+unfoldable pub shared_sides : Party → Visibility → Option Direction → List Entry → Sides
 shared_sides own visibility wind entries = fold (join_sides own visibility wind) either entries
 
 -- ---- the checks: the count of contacts, own, entry by entry contact then target, wind, desired, constraints
-unfoldable pub ruled_checks : Party → ℕ → List Entry → Perhaps → Distance → ManoeuvreConstraints → List Check
+unfoldable pub ruled_checks : Party → ℕ → List Entry → Option Direction → Distance → ManoeuvreConstraints → List Check
 ruled_checks own count entries wind desired c = count_checks count ++ (party_checks own ++ (contacts_checks entries ++ (perhaps_checks wind ++ (distance_checks desired ++ constraint_checks c))))
 
 -- ---- the answer on accepted arguments: 13 where no side is shared, 5 where no trial on a shared side clears
@@ -71,33 +66,33 @@ manoeuvre_of own c chosen = record {
   limiting = chosen.passing.limiting;
 }
 
-abbrev pub chosen_answer : Vessel → ManoeuvreConstraints → Choice → RuledAnswer
-chosen_answer own c Choice.Nothing = Refused Why.NoTrialClears
-chosen_answer own c (Choice.Of chosen) = Of (manoeuvre_of own c chosen)
+abbrev pub chosen_answer : Vessel → ManoeuvreConstraints → Option Chosen → Result RuledManoeuvre Refusal
+chosen_answer own c None = Err Why.NoTrialClears
+chosen_answer own c (Some chosen) = Ok (manoeuvre_of own c chosen)
 
-unfoldable pub answered : Vessel → ManoeuvreConstraints → Sides → Choice → RuledAnswer
-answered own c sides choice = cond (sides.starboard || sides.port) (chosen_answer own c choice) (Refused Why.NoSharedSide)
+unfoldable pub answered : Vessel → ManoeuvreConstraints → Sides → Option Chosen → Result RuledManoeuvre Refusal
+answered own c sides choice = cond (sides.starboard || sides.port) (chosen_answer own c choice) (Err Why.NoSharedSide)
 
-unfoldable pub ruled : Party → List Entry → Visibility → Perhaps → Distance → ManoeuvreConstraints → RuledAnswer
+unfoldable pub ruled : Party → List Entry → Visibility → Option Direction → Distance → ManoeuvreConstraints → Result RuledManoeuvre Refusal
 ruled own entries visibility wind desired c =
     let sides = shared_sides own visibility wind entries in
     answered own.motion c sides (choice_for own.motion (map target_of entries) desired sides c.least_alteration.0 c.most_alteration.0)
 
 -- ---- the answer
-abbrev pub ruled_by : Verdict → RuledAnswer → RuledAnswer
-ruled_by Verdict.Accepted a = a
-ruled_by (Verdict.Refused why) a = Refused why
+abbrev pub ruled_by : Result (Unit {0}) Refusal → Result RuledManoeuvre Refusal → Result RuledManoeuvre Refusal
+ruled_by (Ok tt) a = a
+ruled_by (Err why) a = Err why
 
-unfoldable pub ruled_answer : Party → ℕ → List Entry → Visibility → Perhaps → Distance → ManoeuvreConstraints → RuledAnswer
-ruled_answer own count entries visibility wind desired c = ruled_by (verdict (ruled_checks own count entries wind desired c) Verdict.Accepted) (ruled own entries visibility wind desired c)
+unfoldable pub ruled_answer : Party → ℕ → List Entry → Visibility → Option Direction → Distance → ManoeuvreConstraints → Result RuledManoeuvre Refusal
+ruled_answer own count entries visibility wind desired c = ruled_by (verdict (ruled_checks own count entries wind desired c) (Ok tt)) (ruled own entries visibility wind desired c)
 
 -- ---- what is computed, from offsets and velocities; the same on accepted arguments
-unfoldable pub ruled_as : Party → List Entry → Visibility → Perhaps → Distance → ManoeuvreConstraints → RuledAnswer
+unfoldable pub ruled_as : Party → List Entry → Visibility → Option Direction → Distance → ManoeuvreConstraints → Result RuledManoeuvre Refusal
 ruled_as own entries visibility wind desired c =
     let sides = shared_sides own visibility wind entries in
     answered own.motion c sides (smallest own.motion (floor_of desired) (map moving (map target_of entries)) sides c.least_alteration.0 c.most_alteration.0)
 
 -- document 01's number of an answer, 0 where it is answered
-abbrev pub ruled_number : RuledAnswer → ℕ
-ruled_number (Of m) = 0
-ruled_number (Refused why) = number_of why
+abbrev pub ruled_number : Result RuledManoeuvre Refusal → ℕ
+ruled_number (Ok m) = 0
+ruled_number (Err why) = number_of why

@@ -7,12 +7,13 @@ ghost use Rattle.traffic.specs.Traffic as Around;
 ghost use Rattle.rulings.specs.Ruled as Spec;
 
 use choice::Sides;
-use colregs::answer::RulingAnswer;
+use colregs::answer::Ruling;
 use elementary::error::Refusal;
-use manoeuvre::{Limiting, Side, TurnTime};
+use manoeuvre::Side;
 use motion::units::{Angle, Direction, Distance};
 use situation::config::ColregsConfig;
-use situation::party::{Party, Perhaps, Situation, Visibility};
+use situation::party::{Party, Situation, Visibility};
+use time::Duration;
 use traffic::{Entry, Traffic};
 
 // A trial that clears the traffic: the list that held it, its magnitude, the altered course, the time that the turn takes, the least passing
@@ -22,27 +23,21 @@ pub struct RuledManoeuvre {
     pub side: Side,
     pub magnitude: Angle,
     pub course: Direction,
-    pub turn_time: TurnTime,
+    pub turn_time: Option<Duration>,
     pub passing: Distance,
-    pub limiting: Limiting,
-}
-
-#[derive(Clone, Copy)]
-pub enum RuledAnswer {
-    Of(RuledManoeuvre),
-    Refused(Refusal),
+    pub limiting: Option<usize>,
 }
 
 // The sides that a ruling permits; none where there is no ruling.
-fn permitted_by(answer: RulingAnswer) -> Sides
+fn permitted_by(answer: Result<Ruling, Refusal>) -> Sides
     ensures { result ≡ Spec.permitted_by answer }
 {
     match answer {
-        RulingAnswer::Of(ruling) => Sides {
+        Ok(ruling) => Sides {
             starboard: ruling.manoeuvre.starboard,
             port: ruling.manoeuvre.port,
         },
-        RulingAnswer::Refused(why) => Sides {
+        Err(why) => Sides {
             starboard: false,
             port: false,
         },
@@ -50,16 +45,16 @@ fn permitted_by(answer: RulingAnswer) -> Sides
 }
 
 // The sides that the ruling on one contact permits.
-fn sides_of(own: Party, visibility: Visibility, wind: Perhaps, e: Entry) -> Sides
+fn sides_of(own: Party, visibility: Visibility, wind: Option<Direction>, e: Entry) -> Sides
     ensures { result ≡ Spec.sides_of own visibility wind e }
 {
     let target = e.target;
     let contact = e.contact;
     let s = Situation {
-        own: own,
-        target: target,
-        contact: contact,
-        visibility: visibility,
+        own,
+        target,
+        contact,
+        visibility,
         wind_from: wind,
     };
     permitted_by(ruling::rule_of_the_road(s, ColregsConfig::STANDARD))
@@ -75,19 +70,20 @@ fn in_both(a: Sides, b: Sides) -> Sides
 }
 
 // The sides that the rulings on all contacts permit; both without contacts.
-pub fn shared_sides(own: Party, t: Traffic, visibility: Visibility, wind: Perhaps) -> Sides
+pub fn shared_sides(
+    own: Party,
+    t: Traffic,
+    visibility: Visibility,
+    wind: Option<Direction>,
+) -> Sides
     ensures { result ≡ Spec.shared_sides own visibility wind (Around.contacts t) }
 {
-    let count = room::held(t.count);
     let mut sides = Sides {
         starboard: true,
         port: true,
     };
-    let mut i: usize = 0;
-    while i < count {
-        let e = t.list[i];
-        sides = in_both(sides, sides_of(own, visibility, wind, e));
-        i += 1;
+    for e in &t.list[..room::held(t.count)] {
+        sides = in_both(sides, sides_of(own, visibility, wind, *e));
     }
     sides
 }

@@ -8,30 +8,24 @@ ghost use Rattle.clearing.specs.Clearing as Clearing;
 ghost use Rattle.trials.specs.Trials.{trials};
 ghost use Rattle.seeds.specs.Seeds as Spec;
 
-use choice::{Choice, Sides};
+use choice::{Chosen, Sides};
 use clearing::Scene;
 use constraints::ManoeuvreConstraints;
-use course::{Alteration, Avoidance, CourseAnswer};
+use course::Avoidance;
+use elementary::error::Refusal;
 use manoeuvre::Side;
 use motion::units::Direction;
 use motion::vessel::Vessel;
 
-// The magnitude of a side's exact alteration, where there is one.
-#[derive(Clone, Copy)]
-pub enum Seed {
-    Nothing,
-    Of(f64),
-}
-
 // The courses of an answer, none on either side where it is refused.
-pub fn courses_in(answer: CourseAnswer) -> Avoidance
+pub fn courses_in(answer: Result<Avoidance, Refusal>) -> Avoidance
     ensures { result ≡ Spec.courses_in answer }
 {
     match answer {
-        CourseAnswer::Of(a) => a,
-        CourseAnswer::Refused(why) => Avoidance {
-            starboard: Alteration::Nothing,
-            port: Alteration::Nothing,
+        Ok(a) => a,
+        Err(why) => Avoidance {
+            starboard: None,
+            port: None,
         },
     }
 }
@@ -46,22 +40,22 @@ fn raised(least: f64, a: f64) -> f64
 }
 
 // An alteration that is on the side, raised to least.
-fn seed_by(side: Side, least: f64, alteration: f64) -> Seed
+fn seed_by(side: Side, least: f64, alteration: f64) -> Option<f64>
     ensures { result ≡ Spec.seed_by side least alteration }
 {
     let towards = choice::signed(side, alteration);
     if towards > 0.0 {
-        return Seed::Of(raised(least, math::abs(alteration)));
+        return Some(raised(least, math::abs(alteration)));
     }
-    Seed::Nothing
+    None
 }
 
-fn seed_on(own: Direction, side: Side, least: f64, a: Alteration) -> Seed
+fn seed_on(own: Direction, side: Side, least: f64, a: Option<Direction>) -> Option<f64>
     ensures { result ≡ Spec.seed_on own side least a }
 {
     match a {
-        Alteration::Nothing => Seed::Nothing,
-        Alteration::To(course) => seed_by(side, least, angle::wrap180(course.0 - own.0)),
+        None => None,
+        Some(course) => seed_by(side, least, angle::wrap180(course.0 - own.0)),
     }
 }
 
@@ -81,12 +75,19 @@ fn only(side: Side) -> Sides
 }
 
 // The seed, where it is not above most and clears.
-fn try_seed(own: Vessel, scene: Scene, floor: f64, side: Side, most: f64, seed: Seed) -> Choice
+fn try_seed(
+    own: Vessel,
+    scene: Scene,
+    floor: f64,
+    side: Side,
+    most: f64,
+    seed: Option<f64>,
+) -> Option<Chosen>
     ensures { result ≡ Spec.seed_choice (Choosing.clears_on own floor (Clearing.movings scene) side) side most seed }
 {
     match seed {
-        Seed::Nothing => Choice::Nothing,
-        Seed::Of(m) => choice::try_side(own, scene, floor, m <= most, side, m),
+        None => None,
+        Some(m) => choice::try_side(own, scene, floor, m <= most, side, m),
     }
 }
 
@@ -97,39 +98,39 @@ fn on_side(
     floor: f64,
     permitted: bool,
     side: Side,
-    seed: Seed,
+    seed: Option<f64>,
     least: f64,
     most: f64,
-) -> Choice
+) -> Option<Chosen>
     ensures { result ≡ Spec.seeded_side permitted (Choosing.clears_on own floor (Clearing.movings scene) side) side most seed (trials least most) }
 {
     if permitted {
         let first = try_seed(own, scene, floor, side, most, seed);
         match first {
-            Choice::Of(c) => {
-                return Choice::Of(c);
+            Some(c) => {
+                return Some(c);
             }
-            Choice::Nothing => {
+            None => {
                 return choice::smallest(own, scene, floor, only(side), least, most);
             }
         }
     }
-    Choice::Nothing
+    None
 }
 
 // Starboard's choice and port's: the smaller, starboard on equality.
-fn smaller_of(starboard: Choice, port: Choice) -> Choice
+fn smaller_of(starboard: Option<Chosen>, port: Option<Chosen>) -> Option<Chosen>
     ensures { result ≡ Choosing.smaller starboard port }
 {
     match starboard {
-        Choice::Nothing => port,
-        Choice::Of(s) => match port {
-            Choice::Nothing => Choice::Of(s),
-            Choice::Of(p) => {
+        None => port,
+        Some(s) => match port {
+            None => Some(s),
+            Some(p) => {
                 if p.magnitude.0 < s.magnitude.0 {
-                    return Choice::Of(p);
+                    return Some(p);
                 }
-                Choice::Of(s)
+                Some(s)
             }
         },
     }
@@ -142,7 +143,7 @@ pub fn seeded_choice(
     floor: f64,
     courses: Avoidance,
     c: ManoeuvreConstraints,
-) -> Choice
+) -> Option<Chosen>
     ensures { result ≡ Spec.seeded_choice own (Choosing.clears_on own floor (Clearing.movings scene)) courses c }
 {
     let sides = c.sides();

@@ -6,25 +6,6 @@ use native.Mathlib.Omega.{arith}
 use Rattle.series.specs.Taylor.{sine_divisors, cosine_divisors}
 use Rattle.series.specs.Units.{horner, square, sine_units, cosine_units}
 
--- ---- a product by halves
-half_le : (x y : ℕ) → x ≤ 2 ^ 29 → y ≤ 2 ^ 29 → x * y ≤ 2 ^ 58
-half_le x y hx hy = omega (arith, mul-le-mul hx hy)
-
-pub record Columns (a b : ℕ) : Type 0 where
-  pub top_top : a / 2 ^ 29 * (b / 2 ^ 29) ≤ 2 ^ 58
-  pub top_low : a / 2 ^ 29 * (b % 2 ^ 29) ≤ 2 ^ 58
-  pub low_top : a % 2 ^ 29 * (b / 2 ^ 29) ≤ 2 ^ 58
-  pub low_low : a % 2 ^ 29 * (b % 2 ^ 29) ≤ 2 ^ 58
-
-pub columns : (a b : ℕ) → a ≤ 2 ^ 58 → b ≤ 2 ^ 58 → Columns a b
-columns a b ha hb =
-    record {
-      top_top = half_le (a / 2 ^ 29) (b / 2 ^ 29) (omega arith) (omega arith);
-      top_low = half_le (a / 2 ^ 29) (b % 2 ^ 29) (omega arith) (omega arith);
-      low_top = half_le (a % 2 ^ 29) (b / 2 ^ 29) (omega arith) (omega arith);
-      low_low = half_le (a % 2 ^ 29) (b % 2 ^ 29) (omega arith) (omega arith);
-    }
-
 -- a number from its halves
 back : (x : ℕ) → 2 ^ 29 * (x / 2 ^ 29) + x % 2 ^ 29 ≡ x
 back x = omega arith
@@ -65,18 +46,6 @@ two_columns z q = cut (z / 2 ^ 29 * q) (z % 2 ^ 29 * q) ∙ ap (λ x. x / 2 ^ 58
 
     join : (z1 z0 q : ℕ) → 2 ^ 29 * (z1 * q) + z0 * q ≡ (2 ^ 29 * z1 + z0) * q
     join z1 z0 q = omega arith
-
-pub small_top : (z q : ℕ) → z ≤ 2 ^ 58 → q ≤ 2 ^ 33 → z / 2 ^ 29 * q ≤ 2 ^ 62
-small_top z q hz hq = omega (arith, mul-le-mul top hq)
-  where
-    top : z / 2 ^ 29 ≤ 2 ^ 29
-    top = omega arith
-
-pub small_low : (z q : ℕ) → q ≤ 2 ^ 33 → z % 2 ^ 29 * q ≤ 2 ^ 62
-small_low z q hq = omega (arith, mul-le-mul low hq)
-  where
-    low : z % 2 ^ 29 ≤ 2 ^ 29
-    low = omega arith
 
 -- ---- Horner's rule, without the coefficients that are 0
 last : (c z : ℕ) → c - z * 0 / 2 ^ 58 ≡ c

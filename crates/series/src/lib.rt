@@ -9,7 +9,10 @@ ghost use Rattle.series.specs.Taylor.{sine_divisors, cosine_divisors};
 ghost use Rattle.series.specs.Units.{horner, sine_units, cosine_units};
 
 // One, in units: 2^58.
-const ONE: u64 = 288230376151711744;
+pub const ONE: u64 = 288230376151711744;
+
+// 32 units, as an f64: 2^-53.
+pub const GRID: f64 = 1.1102230246251565e-16;
 
 // The half of a number of units: 2^29.
 const HALF: u64 = 536870912;
@@ -59,6 +62,9 @@ fn small_step(z: u64, q: u64, c: u64) -> u64
     c - product
 }
 
+// The two series stand written out, each with its own coefficients: the size of a coefficient says
+// which product its step can take, which a loop over a table of them would test at each.
+//
 // 1 - z / 3! + z^2 / 5! - ...: the coefficients are ONE / 19!, ONE / 17!, ...; ONE / 21! is no whole unit. 0 for a z above one.
 pub fn sine_series(z: u64) -> u64
     ensures { (z ≤ 2 ^ 58 → result ≡ horner (2 ^ 58) z 1 sine_divisors) × (2 ^ 58 < z → result ≡ 0) × (result ≤ 2 ^ 58) }

@@ -1,9 +1,9 @@
 -- The checks of a sheet (01, 'Encounter sheet and its program': 'checks: 15, 14, 16, then values in sheet order'; R-1: 'a wind of 360 or more gets number 1').
-use Rattle.std.specs.Prelude.{List, [], ◌∷◌, ◌++◌, map, ℕ, leb}
+use Rattle.std.specs.Prelude.{List, [], ◌∷◌, ◌++◌, map, ℕ, leb, Err, Ok}
 use Rattle.time.specs.Clock.{is_accepted}
 use Rattle.elementary.specs.declared.error.Refusal.TheVariants as Why
-use Rattle.arguments.specs.declared.Verdict.{Verdict}
-use Rattle.arguments.specs.declared.Verdict.TheVariants as Verdict
+use Rattle.std.specs.declared.result.Result.{Result}
+use Rattle.elementary.specs.declared.error.Refusal.{Refusal}
 use Rattle.arguments.specs.Check.{Check, check, verdict, is_distance, vessel_checks, distance_checks}
 use Rattle.situation.specs.Arguments.{perhaps_checks}
 use Rattle.constraints.specs.Constraints.{alteration_checks}
@@ -12,8 +12,6 @@ use Rattle.traffic.specs.Traffic.{contacts_checks}
 use Rattle.sheet_words.specs.Word.{words}
 use Rattle.sheet_record.specs.declared.Header.{Header}
 use Rattle.sheet_record.specs.declared.Row.{Row}
-use Rattle.sheet_record.specs.declared.Readable.{Readable}
-use Rattle.sheet_record.specs.declared.Readable.TheVariants as Readable
 use Rattle.sheet_record.specs.Record.{header_of, rows_of, readable}
 use Rattle.sheet_values.specs.Values.{scaled, own_of, wind_from, entry_of}
 
@@ -35,12 +33,12 @@ value_checks h es =
     ++ (limit_checks h ++ (perhaps_checks (wind_from h) ++ contacts_checks es))))
 
 -- ---- the sheet
-abbrev pub by_layout : Readable → Verdict → Verdict
-by_layout Readable.Yes v = v
-by_layout (Readable.Refused why) v = Verdict.Refused why
+abbrev pub by_layout : Result (Unit {0}) Refusal → Result (Unit {0}) Refusal → Result (Unit {0}) Refusal
+by_layout (Ok tt) v = v
+by_layout (Err why) v = Err why
 
-unfoldable pub sheet_verdict : List ℕ → Verdict
+unfoldable pub sheet_verdict : List ℕ → Result (Unit {0}) Refusal
 sheet_verdict s =
     let h = header_of (words s) in
     let rs = rows_of (words s) in
-    by_layout (readable s) (verdict (code_checks h rs ++ value_checks h (map entry_of rs)) Verdict.Accepted)
+    by_layout (readable s) (verdict (code_checks h rs ++ value_checks h (map entry_of rs)) (Ok tt))

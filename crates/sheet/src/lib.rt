@@ -7,89 +7,68 @@ ghost use Rattle.sheet_record.specs.Record as Record;
 ghost use Rattle.traffic.specs.Traffic as Around;
 ghost use Rattle.sheet.specs.Sheet as Spec;
 
-use arguments::Verdict;
 use elementary::error::Refusal;
 use motion::units::{Angle, Distance};
-use sheet_record::{Header, Readable, Rows};
+use sheet_record::{Header, Rows};
 use sheet_values::scaled;
 use situation::check;
 use time::Duration;
 use traffic::Traffic;
 
-// The categories of the contacts. The last is looked at first, so that the first bad one decides.
-fn check_categories(rows: Rows, rest: Verdict) -> Verdict
-    ensures { result ≡ Check.verdict (Spec.category_checks (Record.rows rows)) rest }
+// The categories of the contacts (number 16).
+fn check_categories(rows: Rows) -> Result<(), Refusal>
+    ensures { result ≡ Check.checked (Spec.category_checks (Record.rows rows)) }
 {
-    let mut verdict = rest;
-    let mut i = room::held(rows.count);
-    while i > 0 {
-        i -= 1;
-        let row = rows.list[i];
-        verdict = arguments::unless(row.category <= 7, Refusal::UnknownCode, verdict);
+    for row in &rows.list[..room::held(rows.count)] {
+        arguments::ensure(row.category <= 7, Refusal::UnknownCode)?;
     }
-    verdict
+    Ok(())
 }
 
 // Own category, the visibility, the categories of the contacts.
-fn check_codes(h: Header, rows: Rows, rest: Verdict) -> Verdict
-    ensures { result ≡ Check.verdict (Spec.code_checks h (Record.rows rows)) rest }
+fn check_codes(h: Header, rows: Rows) -> Result<(), Refusal>
+    ensures { result ≡ Check.checked (Spec.code_checks h (Record.rows rows)) }
 {
-    arguments::unless(
-        h.category <= 7,
-        Refusal::UnknownCode,
-        arguments::unless(
-            h.visibility <= 1,
-            Refusal::UnknownCode,
-            check_categories(rows, rest),
-        ),
-    )
+    arguments::ensure(h.category <= 7, Refusal::UnknownCode)?;
+    arguments::ensure(h.visibility <= 1, Refusal::UnknownCode)?;
+    check_categories(rows)
 }
 
 // The limits of the assessment.
-fn check_limits(h: Header, rest: Verdict) -> Verdict
-    ensures { result ≡ Check.verdict (Spec.limit_checks h) rest }
+fn check_limits(h: Header) -> Result<(), Refusal>
+    ensures { result ≡ Check.checked (Spec.limit_checks h) }
 {
     let latest = Duration {
         secs: h.tcpa_limit as u64,
         nanos: 0,
     };
-    arguments::unless(
-        arguments::is_distance(Distance(scaled(h.cpa_limit))),
-        Refusal::Distance,
-        arguments::unless(latest.is_accepted(), Refusal::Time, rest),
-    )
+    arguments::check_distance(Distance(scaled(h.cpa_limit)))?;
+    arguments::ensure(latest.is_accepted(), Refusal::Time)
 }
 
 // Own craft, the desired distance, the least and the most alteration, the limits, the wind, and the contacts one by one.
-fn check_values(h: Header, t: Traffic, rest: Verdict) -> Verdict
-    ensures { result ≡ Check.verdict (Spec.value_checks h (Around.contacts t)) rest }
+fn check_values(h: Header, t: Traffic) -> Result<(), Refusal>
+    ensures { result ≡ Check.checked (Spec.value_checks h (Around.contacts t)) }
 {
     let own = sheet_values::own_of(h);
-    let motion = own.motion;
-    let wind = sheet_values::wind_from(h);
-    let from_wind = check::check_perhaps(wind, traffic::check_contacts(t, rest));
-    let from_limits = check_limits(h, from_wind);
     let least = Angle(scaled(h.least));
     let most = Angle(scaled(h.most));
-    let from_least = constraints::check_alterations(least, most, from_limits);
-    arguments::check_vessel(
-        motion,
-        arguments::check_distance(Distance(scaled(h.desired)), from_least),
-    )
+    let wind = sheet_values::wind_from(h);
+    arguments::check_vessel(own.motion)?;
+    arguments::check_distance(Distance(scaled(h.desired)))?;
+    constraints::check_alterations(least, most)?;
+    check_limits(h)?;
+    check::check_perhaps(wind)?;
+    traffic::check_contacts(t)
 }
 
 // Whether a sheet is accepted, and the refusal if it is not.
-pub fn check_sheet(bytes: &[u8]) -> Verdict
+pub fn check_sheet(bytes: &[u8]) -> Result<(), Refusal>
     ensures { result ≡ Spec.sheet_verdict bytes.now }
 {
-    let readable = sheet_record::check_layout(bytes);
-    match readable {
-        Readable::Yes => {
-            let h = sheet_record::header_of(bytes);
-            let rows = sheet_record::rows_of(bytes);
-            let t = sheet_values::traffic_of(rows);
-            check_codes(h, rows, check_values(h, t, Verdict::Accepted))
-        }
-        Readable::Refused(why) => Verdict::Refused(why),
-    }
+    sheet_record::check_layout(bytes)?;
+    let h = sheet_record::header_of(bytes);
+    let rows = sheet_record::rows_of(bytes);
+    check_codes(h, rows)?;
+    check_values(h, sheet_values::traffic_of(rows))
 }

@@ -1,18 +1,17 @@
 -- Reading what was encoded gives the record back.
+use Rattle.std.specs.Prelude.{None, Some}
 use mathlib.Core.Path.{◌≡◌, refl, sym, ap, ◌∙◌}
 use mathlib.Core.Bool.{Bool, true, false, cond}
 use mathlib.Core.List.{List, [], ◌∷◌, ◌++◌, flat_map}
-use Prim.Native.Nat.{ℕ, ◌+◌, ◌-◌, ◌*◌, ◌/◌, ◌%◌, ◌≤◌, ◌<◌}
+use Prim.Native.Nat.{ℕ, ◌+◌, ◌*◌, ◌/◌, ◌%◌, ◌≤◌, ◌<◌}
 use native.Mathlib.Omega.{arith}
 use lib.Dec.{eqb, lit≤}
 use lib.ListN.{length, get_or, drop, length-append}
 use lib.Seq.{drop-drop}
 use borrow.Author.Tests.{eq-eqb, le-leb}
-use Rattle.elementary.specs.declared.error.Refusal.TheVariants as Why
 use Rattle.room.specs.Room.{max_contacts}
 use Rattle.sheet_words.specs.Word.{words, word_of, kind, value, in_order, has_wind, header_length, ordered, layout}
-use Rattle.sheet_record.specs.declared.Wind.{Wind}
-use Rattle.sheet_record.specs.declared.Wind.TheVariants as Wind
+use Rattle.std.specs.declared.option.Option.{Option}
 use Rattle.sheet_record.specs.declared.Header.{Header}
 use Rattle.sheet_record.specs.declared.Row.{Row}
 use Rattle.sheet_record.specs.Record.{header_of, contact_count, rows_of, readable}
@@ -49,9 +48,9 @@ unfolding rows_words flat_map row_words
 fit_rows [] = tt
 fit_rows (r ∷ rs) = (word_fits 9 r.id (lit≤ tt), (word_fits 10 r.bearing (lit≤ tt), (word_fits 11 r.range (lit≤ tt), (word_fits 12 r.course (lit≤ tt), (word_fits 13 r.speed (lit≤ tt), (word_fits 14 r.category (lit≤ tt), fit_rows rs))))))
 
-fit_wind : (w : Wind) (rs : List Row) → Fit (wind_words w ++ rows_words rs)
-fit_wind Wind.Unknown rs = fit_rows rs
-fit_wind (Wind.From n) rs = (word_fits 15 n (lit≤ tt), fit_rows rs)
+fit_wind : (w : Option ℕ) (rs : List Row) → Fit (wind_words w ++ rows_words rs)
+fit_wind None rs = fit_rows rs
+fit_wind (Some n) rs = (word_fits 15 n (lit≤ tt), fit_rows rs)
 
 fit_all : (h : Header) (rs : List Row) → Fit (header_words h ++ rows_words rs)
 unfolding header_words
@@ -73,28 +72,28 @@ rows-ordered [] = refl
 rows-ordered (r ∷ rs) = rw (kind_of 9 r.id, kind_of 10 r.bearing, kind_of 11 r.range, kind_of 12 r.course, kind_of 13 r.speed, kind_of 14 r.category) (rows-ordered rs)
 
 -- ---- the wind, which stands before the rows
-abbrev told : Wind → Bool
-told Wind.Unknown = false
-told (Wind.From n) = true
+abbrev told : Option ℕ → Bool
+told None = false
+told (Some n) = true
 
 -- a row does not look like a wind
-tells : (w : Wind) (rs : List Row) → eqb (kind (get_or (wind_words w ++ rows_words rs) 0 0)) 15 ≡ told w
+tells : (w : Option ℕ) (rs : List Row) → eqb (kind (get_or (wind_words w ++ rows_words rs) 0 0)) 15 ≡ told w
 unfolding rows_words flat_map row_words
-tells Wind.Unknown [] = refl
-tells Wind.Unknown (r ∷ rs) = ap (λ k. eqb k 15) (kind_of 9 r.id)
-tells (Wind.From n) rs = ap (λ k. eqb k 15) (kind_of 15 n)
+tells None [] = refl
+tells None (r ∷ rs) = ap (λ k. eqb k 15) (kind_of 9 r.id)
+tells (Some n) rs = ap (λ k. eqb k 15) (kind_of 15 n)
 
-same_wind : (w : Wind) (rs : List Row) → WindValue w → cond (told w) (Wind.From (value (get_or (wind_words w ++ rows_words rs) 0 0))) Wind.Unknown ≡ w
-same_wind Wind.Unknown rs v = refl
-same_wind (Wind.From n) rs v = ap Wind.From (value_of 15 n v)
+same_wind : (w : Option ℕ) (rs : List Row) → WindValue w → cond (told w) (Some (value (get_or (wind_words w ++ rows_words rs) 0 0))) None ≡ w
+same_wind None rs v = refl
+same_wind (Some n) rs v = ap Some (value_of 15 n v)
 
-past_wind : (w : Wind) (ws : List ℕ) (n : ℕ) → n ≡ length (wind_words w) → drop n (wind_words w ++ ws) ≡ ws
-past_wind Wind.Unknown ws n e = ap (λ n. drop n ws) e
-past_wind (Wind.From v) ws n e = ap (λ n. drop n (word 15 v ∷ ws)) e
+past_wind : (w : Option ℕ) (ws : List ℕ) (n : ℕ) → n ≡ length (wind_words w) → drop n (wind_words w ++ ws) ≡ ws
+past_wind None ws n e = ap (λ n. drop n ws) e
+past_wind (Some v) ws n e = ap (λ n. drop n (word 15 v ∷ ws)) e
 
-one_word : (w : Wind) → cond (told w) 10 9 ≡ 9 + length (wind_words w)
-one_word Wind.Unknown = refl
-one_word (Wind.From n) = refl
+one_word : (w : Option ℕ) → cond (told w) 10 9 ≡ 9 + length (wind_words w)
+one_word None = refl
+one_word (Some n) = refl
 
 module _ (h : Header) (rs : List Row) where
   abbrev ws : List ℕ

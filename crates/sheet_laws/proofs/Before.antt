@@ -1,4 +1,5 @@
 -- A sheet without the wind reads as it did before a sheet could tell it, and one with it was refused.
+use Rattle.std.specs.Prelude.{None, Some, Err, Ok}
 use mathlib.Core.Path.{◌≡◌, refl, sym, ap, ◌∙◌}
 use mathlib.Core.Bool.{Bool, true, false, ◌&&◌, cond}
 use mathlib.Core.List.{List, [], ◌∷◌, ◌++◌, map}
@@ -10,18 +11,16 @@ use lib.Seq.{get_or-drop}
 use borrow.Author.Tests.{eqb-true, ne_eqb, lt-ltb}
 use Rattle.laws.proofs.Bools.{and-true, and-false}
 use Rattle.elementary.specs.declared.error.Refusal.TheVariants as Why
-use Rattle.arguments.specs.declared.Verdict.{Verdict}
-use Rattle.arguments.specs.declared.Verdict.TheVariants as Verdict
+use Rattle.std.specs.declared.option.Option.{Option}
+use Rattle.std.specs.declared.result.Result.{Result}
+use Rattle.elementary.specs.declared.error.Refusal.{Refusal}
 use Rattle.arguments.specs.Check.{verdict}
 use Rattle.room.specs.Room.{max_contacts}
 use Rattle.traffic.specs.declared.Entry.{Entry}
 use Rattle.sheet_words.specs.Word.{words, kind, next_kind, in_order, has_wind, header_length, ordered, max_bytes}
 use Rattle.sheet_words.specs.Word as Word
-use Rattle.sheet_record.specs.declared.Wind.{Wind}
-use Rattle.sheet_record.specs.declared.Wind.TheVariants as Wind
 use Rattle.sheet_record.specs.declared.Header.{Header}
 use Rattle.sheet_record.specs.declared.Row.{Row}
-use Rattle.sheet_record.specs.declared.Readable.TheVariants.{Yes, Refused}
 use Rattle.sheet_record.specs.Record.{value_at, row_from}
 use Rattle.sheet_record.specs.Record as Record
 use Rattle.sheet_values.specs.Values.{wind_from, entry_of}
@@ -72,9 +71,9 @@ module _ (ws : List ℕ) (none : has_wind ws ≡ false) where
 
   same_header : Record.header_of ws ≡ header_of ws
   unfolding Record.header_of header_of
-  same_header = ap headed (ap (λ b. cond b (Wind.From (value_at ws 9)) Wind.Unknown) none)
+  same_header = ap headed (ap (λ b. cond b (Some (value_at ws 9)) None) none)
     where
-      headed : Wind → Header
+      headed : Option ℕ → Header
       headed w = record {
         course = value_at ws 0;
         speed = value_at ws 1;
@@ -92,8 +91,8 @@ module _ (s : List ℕ) (none : has_wind (words s) ≡ false) where
   same_readable : Record.readable s ≡ readable s
   unfolding Record.readable Word.layout readable layout
   same_readable =
-      ap (λ b. cond (leb (length s) max_bytes && (eqb (length s % 4) 0 && b)) (cond (leb (Record.contact_count (words s)) max_contacts) Yes (Refused Why.TooManyContacts)) (Refused Why.Layout)) (same_order (words s) none)
-      ∙ ap (λ n. cond (leb (length s) max_bytes && (eqb (length s % 4) 0 && in_order 0 (words s))) (cond (leb n max_contacts) Yes (Refused Why.TooManyContacts)) (Refused Why.Layout)) (same_count (words s) none)
+      ap (λ b. cond (leb (length s) max_bytes && (eqb (length s % 4) 0 && b)) (cond (leb (Record.contact_count (words s)) max_contacts) (Ok tt) (Err Why.TooManyContacts)) (Err Why.Layout)) (same_order (words s) none)
+      ∙ ap (λ n. cond (leb (length s) max_bytes && (eqb (length s % 4) 0 && in_order 0 (words s))) (cond (leb n max_contacts) (Ok tt) (Err Why.TooManyContacts)) (Err Why.Layout)) (same_count (words s) none)
 
   -- an unknown wind has no check
   same_checks : (es : List Entry) → Sheet.value_checks (header_of (words s)) es ≡ value_checks (header_of (words s)) es
@@ -106,10 +105,10 @@ module _ (s : List ℕ) (none : has_wind (words s) ≡ false) where
       ap (λ r. by_layout r (by (Record.header_of (words s)) (Record.rows_of (words s)))) same_readable
       ∙ ap (λ h. by_layout (readable s) (by h (Record.rows_of (words s)))) (same_header (words s) none)
       ∙ ap (λ rs. by_layout (readable s) (by (header_of (words s)) rs)) (same_rows (words s) none)
-      ∙ ap (λ c. by_layout (readable s) (verdict (code_checks (header_of (words s)) (rows_of (words s)) ++ c) Verdict.Accepted)) (same_checks (map entry_of (rows_of (words s))))
+      ∙ ap (λ c. by_layout (readable s) (verdict (code_checks (header_of (words s)) (rows_of (words s)) ++ c) (Ok tt))) (same_checks (map entry_of (rows_of (words s))))
     where
-      by : Header → List Row → Verdict
-      by h rs = verdict (code_checks h rs ++ Sheet.value_checks h (map entry_of rs)) Verdict.Accepted
+      by : Header → List Row → Result (Unit {0}) Refusal
+      by h rs = verdict (code_checks h rs ++ Sheet.value_checks h (map entry_of rs)) (Ok tt)
 
 -- ---- with it
 -- a contact does not begin with kind F
@@ -125,13 +124,13 @@ no_layout : (s : List ℕ) → has_wind (words s) ≡ true → layout s ≡ fals
 unfolding layout
 no_layout s told = ap (λ b. leb (length s) max_bytes && (eqb (length s % 4) 0 && b)) (no_order (words s) told) ∙ ap (λ b. leb (length s) max_bytes && b) (and-false (eqb (length s % 4) 0)) ∙ and-false (leb (length s) max_bytes)
 
-unreadable : (s : List ℕ) → has_wind (words s) ≡ true → readable s ≡ Refused Why.Layout
+unreadable : (s : List ℕ) → has_wind (words s) ≡ true → readable s ≡ Err Why.Layout
 unfolding readable
-unreadable s told = ap (λ b. cond b (cond (leb (contact_count (words s)) max_contacts) Yes (Refused Why.TooManyContacts)) (Refused Why.Layout)) (no_layout s told)
+unreadable s told = ap (λ b. cond b (cond (leb (contact_count (words s)) max_contacts) (Ok tt) (Err Why.TooManyContacts)) (Err Why.Layout)) (no_layout s told)
 
-was_refused : (s : List ℕ) → has_wind (words s) ≡ true → sheet_verdict s ≡ Verdict.Refused Why.Layout
+was_refused : (s : List ℕ) → has_wind (words s) ≡ true → sheet_verdict s ≡ Err Why.Layout
 unfolding sheet_verdict
-was_refused s told = ap (λ r. by_layout r (verdict (code_checks (header_of (words s)) (rows_of (words s)) ++ value_checks (header_of (words s)) (map entry_of (rows_of (words s)))) Verdict.Accepted)) (unreadable s told)
+was_refused s told = ap (λ r. by_layout r (verdict (code_checks (header_of (words s)) (rows_of (words s)) ++ value_checks (header_of (words s)) (map entry_of (rows_of (words s)))) (Ok tt))) (unreadable s told)
 
 pub extends : (s : List ℕ) → Extends s
 extends s = record {

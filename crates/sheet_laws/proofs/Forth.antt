@@ -1,8 +1,9 @@
 -- Encoding what was read gives the bytes back.
+use Rattle.std.specs.Prelude.{None, Some, Err, Ok}
 use mathlib.Core.Path.{◌≡◌, refl, sym, ap, ◌∙◌, subst}
 use mathlib.Core.Bool.{Bool, true, false, not, ◌&&◌, cond}
 use mathlib.Core.List.{List, [], ◌∷◌, ◌++◌, flat_map}
-use Prim.Native.Nat.{ℕ, ◌+◌, ◌-◌, ◌/◌, ◌%◌, ◌≤◌, ◌<◌}
+use Prim.Native.Nat.{ℕ, ◌/◌, ◌%◌, ◌≤◌, ◌<◌}
 use native.Mathlib.Omega.{arith}
 use lib.Dec.{T, eqb, leb, eqb→eq, leb→le, nleb→lt}
 use lib.ListN.{length, get_or, take, drop, length-take, take-append-drop, get_or-eq_default}
@@ -11,10 +12,9 @@ use lib.Ieee.Fits.{and_l, and_r}
 use Rattle.room.specs.Room.{max_contacts}
 use Rattle.sheet_words.specs.Word.{words, word_of, kind, value, next_kind, in_order, has_wind, header_length, ordered, max_bytes, layout}
 use Rattle.sheet_words.proofs.Words.{short}
-use Rattle.sheet_record.specs.declared.Wind.TheVariants as Wind
+use Rattle.std.specs.declared.result.Result.{Result}
+use Rattle.elementary.specs.declared.error.Refusal.{Refusal}
 use Rattle.elementary.specs.declared.error.Refusal.TheVariants as Why
-use Rattle.sheet_record.specs.declared.Readable.{Readable}
-use Rattle.sheet_record.specs.declared.Readable.TheVariants.{Yes, Refused}
 use Rattle.sheet_record.specs.Record.{value_at, wind_of, header_of, contact_count, rows_of, readable}
 use Rattle.encoding.specs.Encode.{word, word_bytes, wind_words, header_words, row_words, rows_words, bytes_of, encode}
 use Rattle.sheet_laws.specs.RoundTrip.{Bytes, WritesBack}
@@ -101,7 +101,7 @@ module _ (ws : List ℕ) (t : T (ordered ws)) (few : contact_count ws ≤ max_co
   wind_back : wind_words (wind_of ws) ++ drop (header_length ws) ws ≡ drop 9 ws
   wind_back = go (has_wind ws) refl
     where
-      go : (b : Bool) → has_wind ws ≡ b → wind_words (cond b (Wind.From (value_at ws 9)) Wind.Unknown) ++ drop (cond b 10 9) ws ≡ drop 9 ws
+      go : (b : Bool) → has_wind ws ≡ b → wind_words (cond b (Some (value_at ws 9)) None) ++ drop (cond b 10 9) ws ≡ drop 9 ws
       go true e =
           let due_15 : due 15 (get_or ws 9 0) = subst T (sym e) tt in
           ap (λ (w : ℕ). w ∷ drop 10 ws) (same_word 15 (get_or ws 9 0) due_15) ∙ sym (drop-cons ws 9 0 (there (eqb→eq (kind (get_or ws 9 0)) 15 due_15)))
@@ -149,16 +149,16 @@ bytes_back (a ∷ b ∷ c ∷ d ∷ s) v h =
     ∙ ap (λ (l : List ℕ). a ∷ b ∷ c ∷ d ∷ l) (bytes_back s v.1.1.1.1 (omega arith))
 
 -- ---- the sheet
-abbrev IsYes : Readable → Type 0
-IsYes Yes = Unit
-IsYes (Refused why) = ⊥
+abbrev IsYes : Result (Unit {0}) Refusal → Type 0
+IsYes (Ok tt) = Unit
+IsYes (Err why) = ⊥
 
-in_order_lem : (l k : Bool) → IsYes (cond l (cond k Yes (Refused Why.TooManyContacts)) (Refused Why.Layout)) → T l × T k
+in_order_lem : (l k : Bool) → IsYes (cond l (cond k (Ok tt) (Err Why.TooManyContacts)) (Err Why.Layout)) → T l × T k
 in_order_lem true true y = (tt, tt)
 in_order_lem true false y = absurd y
 in_order_lem false k y = absurd y
 
-module _ (s : List ℕ) (v : Bytes s) (yes : readable s ≡ Yes) where
+module _ (s : List ℕ) (v : Bytes s) (yes : readable s ≡ (Ok tt)) where
   read : T (layout s) × T (leb (contact_count (words s)) max_contacts)
   unfolding readable
   read = in_order_lem (layout s) (leb (contact_count (words s)) max_contacts) (subst IsYes (sym yes) tt)

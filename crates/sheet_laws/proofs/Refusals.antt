@@ -1,4 +1,5 @@
 -- Each refusal of a sheet has its number for exactly its reason: layout, then count, then codes, then the values, whose checks have other numbers.
+use Rattle.std.specs.Prelude.{None, Some, Err, Ok}
 use mathlib.Core.Path.{◌≡◌, refl, sym, ap, ◌∙◌}
 use mathlib.Core.Bool.{Bool, true, false, ◌&&◌, cond}
 use mathlib.Core.List.{List, [], ◌∷◌, ◌++◌, map}
@@ -7,18 +8,16 @@ use native.Mathlib.Omega.{arith}
 use lib.Dec.{leb, lit≤}
 use Rattle.elementary.specs.Refusal.{number_of}
 use Rattle.elementary.specs.declared.error.Refusal.TheVariants as Why
-use Rattle.arguments.specs.declared.Verdict.{Verdict}
-use Rattle.arguments.specs.declared.Verdict.TheVariants as Verdict
+use Rattle.std.specs.declared.option.Option.{Option}
+use Rattle.std.specs.declared.result.Result.{Result}
+use Rattle.elementary.specs.declared.error.Refusal.{Refusal}
 use Rattle.arguments.specs.Check.{Check, verdict}
 use Rattle.arguments.proofs.Checks.{verdict_joined}
 use Rattle.situation.specs.Arguments.{perhaps_checks, party_checks}
 use Rattle.traffic.specs.Traffic.{entry_checks, contacts_checks}
 use Rattle.sheet_words.specs.Word.{words, layout}
-use Rattle.sheet_record.specs.declared.Wind.{Wind}
-use Rattle.sheet_record.specs.declared.Wind.TheVariants as Wind
 use Rattle.sheet_record.specs.declared.Header.{Header}
 use Rattle.sheet_record.specs.declared.Row.{Row}
-use Rattle.sheet_record.specs.declared.Readable.TheVariants as Readable
 use Rattle.sheet_record.specs.Record.{header_of, rows_of, readable}
 use Rattle.sheet_values.specs.Values.{party_of, wind_by, wind_from, entry_of}
 use Rattle.sheet.specs.Sheet.{category_checks, code_checks, value_checks, by_layout, sheet_verdict}
@@ -33,12 +32,12 @@ within_both : (a b : List Check) → Within a → Within b → Within (a ++ b)
 within_both [] b w v = v
 within_both (c ∷ a) b w v = (w.0, within_both a b w.1 v)
 
-number_within : (cs : List Check) → Within cs → number_in (verdict cs Verdict.Accepted) ≤ 6
+number_within : (cs : List Check) → Within cs → number_in (verdict cs (Ok tt)) ≤ 6
 unfolding verdict
 number_within [] w = lit≤ tt
 number_within (c ∷ cs) w = go c.good (number_within cs w.1)
   where
-    go : (b : Bool) → number_in (verdict cs Verdict.Accepted) ≤ 6 → number_in (cond b (verdict cs Verdict.Accepted) (Verdict.Refused c.why)) ≤ 6
+    go : (b : Bool) → number_in (verdict cs (Ok tt)) ≤ 6 → number_in (cond b (verdict cs (Ok tt)) (Err c.why)) ≤ 6
     go true later = later
     go false later = w.0
 
@@ -48,44 +47,44 @@ unfolding contacts_checks entry_checks party_checks entry_of party_of
 rows_within [] = tt
 rows_within (r ∷ rs) = (lit≤ tt, (lit≤ tt, (lit≤ tt, (lit≤ tt, rows_within rs))))
 
-wind_within : (w : Wind) → Within (perhaps_checks (wind_by w))
-wind_within Wind.Unknown = tt
-wind_within (Wind.From n) = (lit≤ tt, tt)
+wind_within : (w : Option ℕ) → Within (perhaps_checks (wind_by w))
+wind_within None = tt
+wind_within (Some n) = (lit≤ tt, tt)
 
 values_within : (h : Header) (rs : List Row) → Within (value_checks h (map entry_of rs))
 unfolding value_checks wind_from
 values_within h rs = (lit≤ tt, (lit≤ tt, (lit≤ tt, (lit≤ tt, (lit≤ tt, (lit≤ tt, (lit≤ tt, within_both (perhaps_checks (wind_by h.wind)) (contacts_checks (map entry_of rs)) (wind_within h.wind) (rows_within rs))))))))
 
 -- ---- the codes
-categories_decide : (rs : List Row) (rest : Verdict) → verdict (category_checks rs) rest ≡ cond (known_rows rs) rest (Verdict.Refused Why.UnknownCode)
+categories_decide : (rs : List Row) (rest : Result (Unit {0}) Refusal) → verdict (category_checks rs) rest ≡ cond (known_rows rs) rest (Err Why.UnknownCode)
 unfolding verdict category_checks known_rows
 categories_decide [] rest = refl
 categories_decide (r ∷ rs) rest = go (leb r.category 7) (categories_decide rs rest)
   where
-    go : (b : Bool) → verdict (category_checks rs) rest ≡ cond (known_rows rs) rest (Verdict.Refused Why.UnknownCode) → cond b (verdict (category_checks rs) rest) (Verdict.Refused Why.UnknownCode) ≡ cond (b && known_rows rs) rest (Verdict.Refused Why.UnknownCode)
+    go : (b : Bool) → verdict (category_checks rs) rest ≡ cond (known_rows rs) rest (Err Why.UnknownCode) → cond b (verdict (category_checks rs) rest) (Err Why.UnknownCode) ≡ cond (b && known_rows rs) rest (Err Why.UnknownCode)
     go true later = later
     go false later = refl
 
-codes_decide : (h : Header) (rs : List Row) (rest : Verdict) → verdict (code_checks h rs) rest ≡ cond (known h rs) rest (Verdict.Refused Why.UnknownCode)
+codes_decide : (h : Header) (rs : List Row) (rest : Result (Unit {0}) Refusal) → verdict (code_checks h rs) rest ≡ cond (known h rs) rest (Err Why.UnknownCode)
 unfolding verdict code_checks known
 codes_decide h rs rest = go (leb h.category 7) (leb h.visibility 1)
   where
-    go : (a b : Bool) → cond a (cond b (verdict (category_checks rs) rest) (Verdict.Refused Why.UnknownCode)) (Verdict.Refused Why.UnknownCode) ≡ cond (a && (b && known_rows rs)) rest (Verdict.Refused Why.UnknownCode)
+    go : (a b : Bool) → cond a (cond b (verdict (category_checks rs) rest) (Err Why.UnknownCode)) (Err Why.UnknownCode) ≡ cond (a && (b && known_rows rs)) rest (Err Why.UnknownCode)
     go true true = categories_decide rs rest
     go true false = refl
     go false b = refl
 
 -- ---- the order
-abbrev in_order : Bool → Bool → Bool → Verdict → Verdict
-in_order l f c v = cond l (cond f (cond c v (Verdict.Refused Why.UnknownCode)) (Verdict.Refused Why.TooManyContacts)) (Verdict.Refused Why.Layout)
+abbrev in_order : Bool → Bool → Bool → Result (Unit {0}) Refusal → Result (Unit {0}) Refusal
+in_order l f c v = cond l (cond f (cond c v (Err Why.UnknownCode)) (Err Why.TooManyContacts)) (Err Why.Layout)
 
-by_layout_lem : (l f : Bool) (v : Verdict) → by_layout (cond l (cond f Readable.Yes (Readable.Refused Why.TooManyContacts)) (Readable.Refused Why.Layout)) v ≡ cond l (cond f v (Verdict.Refused Why.TooManyContacts)) (Verdict.Refused Why.Layout)
+by_layout_lem : (l f : Bool) (v : Result (Unit {0}) Refusal) → by_layout (cond l (cond f (Ok tt) (Err Why.TooManyContacts)) (Err Why.Layout)) v ≡ cond l (cond f v (Err Why.TooManyContacts)) (Err Why.Layout)
 by_layout_lem true true v = refl
 by_layout_lem true false v = refl
 by_layout_lem false f v = refl
 
 -- ---- which number has which reason
-module _ (v : Verdict) (small : number_in v ≤ 6) where
+module _ (v : Result (Unit {0}) Refusal) (small : number_in v ≤ 6) where
   for_15 : (l f c : Bool) → number_in (in_order l f c v) ≡ 15 → l ≡ false
   for_15 true true true e = absurd (omega (arith, small, e))
   for_15 true true false e = absurd (omega (arith, e))
@@ -120,8 +119,8 @@ module _ (s : List ℕ) where
   in_order_lem : sheet_verdict s ≡ in_order (layout s) (few s) (codes s) (values s)
   unfolding sheet_verdict readable
   in_order_lem =
-      ap (by_layout (readable s)) (verdict_joined (code_checks h rs) (value_checks h (map entry_of rs)) Verdict.Accepted ∙ codes_decide h rs (values s))
-      ∙ by_layout_lem (layout s) (few s) (cond (codes s) (values s) (Verdict.Refused Why.UnknownCode))
+      ap (by_layout (readable s)) (verdict_joined (code_checks h rs) (value_checks h (map entry_of rs)) (Ok tt) ∙ codes_decide h rs (values s))
+      ∙ by_layout_lem (layout s) (few s) (cond (codes s) (values s) (Err Why.UnknownCode))
 
   small : number_in (values s) ≤ 6
   small = number_within (value_checks h (map entry_of rs)) (values_within h rs)

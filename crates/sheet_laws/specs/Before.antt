@@ -1,19 +1,16 @@
 -- Reading a sheet by document 01 alone ('Encounter sheet and its program'), without request R-1: nine words, then the contacts; no wind. The definitions are those of `sheet_words`, `sheet_record` and `sheet` as they stand there but for the wind, and say what 'as before' means in 'a sheet without the word reads and prints as before'.
-use Rattle.std.specs.Prelude.{◌≡◌, Bool, true, false, ◌&&◌, cond, List, [], ◌∷◌, ◌++◌, map, ℕ, zero, suc, ◌+◌, ◌-◌, ◌*◌, ◌/◌, ◌%◌, min, eqb, leb, length}
+use Rattle.std.specs.Prelude.{◌≡◌, Bool, true, false, ◌&&◌, cond, List, [], ◌∷◌, ◌++◌, map, ℕ, zero, suc, ◌+◌, ◌-◌, ◌*◌, ◌/◌, ◌%◌, min, eqb, leb, length, None, Err, Ok}
 use Rattle.elementary.specs.declared.error.Refusal.TheVariants as Why
-use Rattle.arguments.specs.declared.Verdict.{Verdict}
-use Rattle.arguments.specs.declared.Verdict.TheVariants as Verdict
+use Rattle.std.specs.declared.result.Result.{Result}
+use Rattle.elementary.specs.declared.error.Refusal.{Refusal}
 use Rattle.arguments.specs.Check.{Check, verdict, vessel_checks, distance_checks}
 use Rattle.constraints.specs.Constraints.{alteration_checks}
 use Rattle.room.specs.Room.{max_contacts}
 use Rattle.traffic.specs.declared.Entry.{Entry}
 use Rattle.traffic.specs.Traffic.{contacts_checks}
 use Rattle.sheet_words.specs.Word.{words, in_order, has_wind, max_bytes}
-use Rattle.sheet_record.specs.declared.Wind.TheVariants as Wind
 use Rattle.sheet_record.specs.declared.Header.{Header}
 use Rattle.sheet_record.specs.declared.Row.{Row}
-use Rattle.sheet_record.specs.declared.Readable.{Readable}
-use Rattle.sheet_record.specs.declared.Readable.TheVariants.{Yes, Refused}
 use Rattle.sheet_record.specs.Record.{value_at, row_from}
 use Rattle.sheet_record.specs.Record as Record
 use Rattle.sheet_values.specs.Values.{scaled, own_of, entry_of}
@@ -27,8 +24,8 @@ layout s = leb (length s) max_bytes && (eqb (length s % 4) 0 && in_order 0 (word
 unfoldable pub contact_count : List ℕ → ℕ
 contact_count ws = (length ws - 9) / 6
 
-unfoldable pub readable : List ℕ → Readable
-readable s = cond (layout s) (cond (leb (contact_count (words s)) max_contacts) Yes (Refused Why.TooManyContacts)) (Refused Why.Layout)
+unfoldable pub readable : List ℕ → Result (Unit {0}) Refusal
+readable s = cond (layout s) (cond (leb (contact_count (words s)) max_contacts) (Ok tt) (Err Why.TooManyContacts)) (Err Why.Layout)
 
 -- ---- the record
 unfoldable pub header_of : List ℕ → Header
@@ -42,7 +39,7 @@ header_of ws = record {
   most = value_at ws 6;
   cpa_limit = value_at ws 7;
   tcpa_limit = value_at ws 8;
-  wind = Wind.Unknown;
+  wind = None;
 }
 
 unfoldable pub first_rows : List ℕ → ℕ → List Row
@@ -58,11 +55,11 @@ value_checks h es =
     vessel_checks (own_of h).motion ++ (distance_checks (record { 0 = scaled h.desired }) ++ (alteration_checks (record { 0 = scaled h.least }) (record { 0 = scaled h.most })
     ++ (limit_checks h ++ contacts_checks es)))
 
-unfoldable pub sheet_verdict : List ℕ → Verdict
+unfoldable pub sheet_verdict : List ℕ → Result (Unit {0}) Refusal
 sheet_verdict s =
     let h = header_of (words s) in
     let rs = rows_of (words s) in
-    by_layout (readable s) (verdict (code_checks h rs ++ value_checks h (map entry_of rs)) Verdict.Accepted)
+    by_layout (readable s) (verdict (code_checks h rs ++ value_checks h (map entry_of rs)) (Ok tt))
 
 -- ---- a sheet whose tenth word is not of kind F reads as before
 pub record ReadsAsBefore (s : List ℕ) : Type 0 where
@@ -73,4 +70,4 @@ pub record ReadsAsBefore (s : List ℕ) : Type 0 where
 -- ---- one whose tenth word is of kind F was refused with 15: no sheet that had another answer has a new one
 pub record Extends (s : List ℕ) : Type 0 where
   pub without : has_wind (words s) ≡ false → ReadsAsBefore s
-  pub told : has_wind (words s) ≡ true → sheet_verdict s ≡ Verdict.Refused Why.Layout
+  pub told : has_wind (words s) ≡ true → sheet_verdict s ≡ Err Why.Layout

@@ -1,9 +1,9 @@
 -- When a sheet is refused, and with which number (01, 'Encounter sheet and its program': 'checks: 15, 14, 16, then values in sheet order').
-use Rattle.std.specs.Prelude.{◌≡◌, Bool, true, false, ◌&&◌, cond, List, [], ◌∷◌, map, ℕ, ◌≤◌, leb}
+use Rattle.std.specs.Prelude.{◌≡◌, Bool, true, false, ◌&&◌, cond, List, [], ◌∷◌, map, ℕ, ◌≤◌, leb, Err, Ok}
 use Rattle.elementary.specs.Refusal.{number_of}
 use Rattle.elementary.specs.declared.error.Refusal.TheVariants as Why
-use Rattle.arguments.specs.declared.Verdict.{Verdict}
-use Rattle.arguments.specs.declared.Verdict.TheVariants as Verdict
+use Rattle.std.specs.declared.result.Result.{Result}
+use Rattle.elementary.specs.declared.error.Refusal.{Refusal}
 use Rattle.arguments.specs.Check.{verdict}
 use Rattle.room.specs.Room.{max_contacts}
 use Rattle.sheet_words.specs.Word.{words, layout}
@@ -29,17 +29,17 @@ abbrev pub codes : List ℕ → Bool
 codes s = known (header_of (words s)) (rows_of (words s))
 
 -- what the values say, the first bad one of the sheet's order
-abbrev pub values : List ℕ → Verdict
-values s = verdict (value_checks (header_of (words s)) (map entry_of (rows_of (words s)))) Verdict.Accepted
+abbrev pub values : List ℕ → Result (Unit {0}) Refusal
+values s = verdict (value_checks (header_of (words s)) (map entry_of (rows_of (words s)))) (Ok tt)
 
 -- document 01's number, 0 where accepted
-abbrev pub number_in : Verdict → ℕ
-number_in Verdict.Accepted = 0
-number_in (Verdict.Refused why) = number_of why
+abbrev pub number_in : Result (Unit {0}) Refusal → ℕ
+number_in (Ok tt) = 0
+number_in (Err why) = number_of why
 
 pub record Exactly (s : List ℕ) : Type 0 where
   -- in this order
-  pub order : sheet_verdict s ≡ cond (layout s) (cond (few s) (cond (codes s) (values s) (Verdict.Refused Why.UnknownCode)) (Verdict.Refused Why.TooManyContacts)) (Verdict.Refused Why.Layout)
+  pub order : sheet_verdict s ≡ cond (layout s) (cond (few s) (cond (codes s) (values s) (Err Why.UnknownCode)) (Err Why.TooManyContacts)) (Err Why.Layout)
   -- the values have none of the numbers 14, 15 and 16, so that each of these has its own reason
   pub value_numbers : number_in (values s) ≤ 6
   pub is_15 : number_in (sheet_verdict s) ≡ 15 → layout s ≡ false

@@ -1,21 +1,18 @@
 -- Records and bytes of which the round trip speaks: values of 28 bits, bytes of 8.
-use Rattle.std.specs.Prelude.{◌≡◌, true, List, [], ◌∷◌, ℕ, ◌<◌, ◌≤◌, length}
-use Rattle.room.specs.Room.{max_contacts}
-use Rattle.sheet_words.specs.Word.{words, layout}
-use Rattle.sheet_record.specs.declared.Wind.{Wind}
-use Rattle.sheet_record.specs.declared.Wind.TheVariants as Wind
+use Rattle.std.specs.Prelude.{◌≡◌, List, [], ◌∷◌, ℕ, ◌<◌, None, Some, Ok}
+use Rattle.sheet_words.specs.Word.{words}
+use Rattle.std.specs.declared.option.Option.{Option}
 use Rattle.sheet_record.specs.declared.Header.{Header}
 use Rattle.sheet_record.specs.declared.Row.{Row}
-use Rattle.sheet_record.specs.declared.Readable.TheVariants.{Yes}
 use Rattle.sheet_record.specs.Record.{header_of, rows_of, readable}
 use Rattle.encoding.specs.Encode.{encode}
 
 abbrev pub Value : ℕ → Type 0
 Value v = v < 268435456
 
-abbrev pub WindValue : Wind → Type 0
-WindValue Wind.Unknown = Unit
-WindValue (Wind.From n) = Value n
+abbrev pub WindValue : Option ℕ → Type 0
+WindValue None = Unit
+WindValue (Some n) = Value n
 
 pub record HeaderValues (h : Header) : Type 0 where
   pub course : Value h.course
@@ -47,7 +44,7 @@ Bytes (b ∷ s) = (b < 256) × Bytes s
 
 -- what was encoded is readable, and reading it gives the record back
 pub record ReadsBack (h : Header) (rs : List Row) : Type 0 where
-  pub accepted : readable (encode h rs) ≡ Yes
+  pub accepted : readable (encode h rs) ≡ (Ok tt)
   pub header : header_of (words (encode h rs)) ≡ h
   pub rows : rows_of (words (encode h rs)) ≡ rs
 

@@ -1,10 +1,11 @@
 -- What a sheet asks for: the limits of the assessment and of the turn, and the id of the contact at a place.
-use Rattle.std.specs.Prelude.{List, map, ℕ, get_or}
-use Rattle.policy.specs.declared.PolicyAnswer.{PolicyAnswer}
+use Rattle.std.specs.Prelude.{List, map, ℕ, get_or, None, Some}
+use Rattle.constraints.specs.declared.ManoeuvreConstraints.{ManoeuvreConstraints}
+use Rattle.std.specs.declared.option.Option.{Option}
+use Rattle.std.specs.declared.result.Result.{Result}
+use Rattle.elementary.specs.declared.error.Refusal.{Refusal}
+use Rattle.policy.specs.declared.CpaPolicy.{CpaPolicy}
 use Rattle.policy.specs.Policy.{policy_answer}
-use Rattle.manoeuvre.specs.declared.Limiting.{Limiting}
-use Rattle.manoeuvre.specs.declared.Limiting.TheVariants as Limiting
-use Rattle.constraints.specs.declared.ConstraintsAnswer.{ConstraintsAnswer}
 use Rattle.constraints.specs.declared.PermittedSides.TheVariants.{Either}
 use Rattle.constraints.specs.Constraints.{constraints_answer}
 use Rattle.sheet_record.specs.declared.Header.{Header}
@@ -12,13 +13,13 @@ use Rattle.sheet_record.specs.declared.Row.{Row}
 use Rattle.sheet_values.specs.Values.{scaled}
 
 -- the id of the limiting contact; none is read where there is none
-unfoldable pub id_at : List Row → Limiting → ℕ
-id_at rs Limiting.Nobody = 0
-id_at rs (Limiting.Contact place) = get_or (map (λ r. r.id) rs) place 0
+unfoldable pub id_at : List Row → Option ℕ → ℕ
+id_at rs None = 0
+id_at rs (Some place) = get_or (map (λ r. r.id) rs) place 0
 
-unfoldable pub policy_on : Header → PolicyAnswer
+unfoldable pub policy_on : Header → Result CpaPolicy Refusal
 policy_on h = policy_answer (record { 0 = scaled h.cpa_limit }) (record { secs = h.tcpa_limit; nanos = 0 })
 
 -- the ruled search takes no sides from its caller
-unfoldable pub constraints_on : Header → ConstraintsAnswer
+unfoldable pub constraints_on : Header → Result ManoeuvreConstraints Refusal
 constraints_on h = constraints_answer Either (record { 0 = scaled h.least }) (record { 0 = scaled h.most })

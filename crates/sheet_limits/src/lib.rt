@@ -5,21 +5,21 @@ ghost use Rattle.std.specs.Prelude.{◌≡◌};
 ghost use Rattle.sheet_record.specs.Record as Record;
 ghost use Rattle.sheet_limits.specs.Limits as Spec;
 
-use constraints::{ConstraintsAnswer, ManoeuvreConstraints, PermittedSides};
-use manoeuvre::Limiting;
+use constraints::{ManoeuvreConstraints, PermittedSides};
+use elementary::error::Refusal;
 use motion::units::{Angle, Distance};
-use policy::{CpaPolicy, PolicyAnswer};
+use policy::CpaPolicy;
 use sheet_record::{Header, Rows};
 use sheet_values::scaled;
 use time::Duration;
 
 // The id of the limiting contact, 0 where there is none.
-pub fn id_at(rows: Rows, limiting: Limiting) -> u32
+pub fn id_at(rows: Rows, limiting: Option<usize>) -> u32
     ensures { result ≡ Spec.id_at (Record.rows rows) limiting }
 {
     match limiting {
-        Limiting::Nobody => 0,
-        Limiting::Contact(place) => {
+        None => 0,
+        Some(place) => {
             if place < room::held(rows.count) {
                 let row = rows.list[place];
                 return row.id;
@@ -30,7 +30,7 @@ pub fn id_at(rows: Rows, limiting: Limiting) -> u32
 }
 
 // The limits of the assessment.
-pub fn policy_on(h: Header) -> PolicyAnswer
+pub fn policy_on(h: Header) -> Result<CpaPolicy, Refusal>
     ensures { result ≡ Spec.policy_on h }
 {
     let latest = Duration {
@@ -41,7 +41,7 @@ pub fn policy_on(h: Header) -> PolicyAnswer
 }
 
 // The limits of the turn; the ruled search takes no sides from its caller.
-pub fn constraints_on(h: Header) -> ConstraintsAnswer
+pub fn constraints_on(h: Header) -> Result<ManoeuvreConstraints, Refusal>
     ensures { result ≡ Spec.constraints_on h }
 {
     let least = Angle(scaled(h.least));

@@ -1,4 +1,5 @@
 -- The count of contacts, and the answer of layout and count.
+use Rattle.std.specs.Prelude.{Err, Ok}
 use mathlib.Core.Path.{◌≡◌, refl, sym, ap, ◌∙◌}
 use mathlib.Core.Bool.{Bool, true, false, cond}
 use mathlib.Core.List.{List}
@@ -11,7 +12,6 @@ use Rattle.elementary.specs.declared.error.Refusal.TheVariants as Why
 use Rattle.room.specs.Room.{max_contacts}
 use Rattle.sheet_words.specs.Word.{header_length, words, layout}
 use Rattle.sheet_words.proofs.Words as Words
-use Rattle.sheet_record.specs.declared.Readable.TheVariants.{Yes, Refused}
 use Rattle.sheet_record.specs.Record.{contact_count, readable}
 
 -- ---- the count
@@ -31,15 +31,15 @@ module _ (s : List ℕ) (first : ℕ) (is : first ≡ header_length (words s)) w
 
 -- ---- layout, then count
 module _ (s : List ℕ) (b : Bool) where
-  by : (l : Bool) → b ≡ layout s → b ≡ l → (k : Bool) → leb (contact_count (words s)) max_contacts ≡ k → cond l (cond k Yes (Refused Why.TooManyContacts)) (Refused Why.Layout) ≡ readable s
+  by : (l : Bool) → b ≡ layout s → b ≡ l → (k : Bool) → leb (contact_count (words s)) max_contacts ≡ k → cond l (cond k (Ok tt) (Err Why.TooManyContacts)) (Err Why.Layout) ≡ readable s
   unfolding readable
-  by l is e k q = ap (λ l. cond l (cond k Yes (Refused Why.TooManyContacts)) (Refused Why.Layout)) (sym e ∙ is) ∙ ap (λ k. cond (layout s) (cond k Yes (Refused Why.TooManyContacts)) (Refused Why.Layout)) (sym q)
+  by l is e k q = ap (λ l. cond l (cond k (Ok tt) (Err Why.TooManyContacts)) (Err Why.Layout)) (sym e ∙ is) ∙ ap (λ k. cond (layout s) (cond k (Ok tt) (Err Why.TooManyContacts)) (Err Why.Layout)) (sym q)
 
-  pub right : (n : ℕ) → b ≡ layout s → b ≡ true → n ≡ contact_count (words s) → n ≤ max_contacts → Yes ≡ readable s
+  pub right : (n : ℕ) → b ≡ layout s → b ≡ true → n ≡ contact_count (words s) → n ≤ max_contacts → (Ok tt) ≡ readable s
   right n is e en h = by true is e true (ap (λ n. leb n max_contacts) (sym en) ∙ le-leb n max_contacts h)
 
-  pub too_many : (n : ℕ) → b ≡ layout s → b ≡ true → n ≡ contact_count (words s) → max_contacts < n → Refused Why.TooManyContacts ≡ readable s
+  pub too_many : (n : ℕ) → b ≡ layout s → b ≡ true → n ≡ contact_count (words s) → max_contacts < n → Err Why.TooManyContacts ≡ readable s
   too_many n is e en h = by true is e false (ap (λ n. leb n max_contacts) (sym en) ∙ lt-leb n max_contacts h)
 
-  pub out_of_order : b ≡ layout s → b ≡ false → Refused Why.Layout ≡ readable s
+  pub out_of_order : b ≡ layout s → b ≡ false → Err Why.Layout ≡ readable s
   out_of_order is e = by false is e (leb (contact_count (words s)) max_contacts) refl

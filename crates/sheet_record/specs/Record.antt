@@ -1,23 +1,22 @@
 -- A sheet's words as a record of whole numbers (01, 'Encounter sheet and its program': the order of the words; 'checks: 15, 14, …'; R-1: 'the header record … gain[s] that wind').
-use Rattle.std.specs.Prelude.{cond, List, [], ◌∷◌, ◌++◌, ℕ, zero, suc, ◌+◌, ◌-◌, ◌*◌, ◌/◌, ◌%◌, min, leb, length, get_or, take}
+use Rattle.std.specs.Prelude.{cond, List, [], ◌∷◌, ◌++◌, ℕ, zero, suc, ◌+◌, ◌-◌, ◌*◌, ◌/◌, ◌%◌, min, leb, length, get_or, take, None, Some, Err, Ok}
 use Rattle.elementary.specs.declared.error.Refusal.TheVariants as Why
 use Rattle.room.specs.Room.{max_contacts}
 use Rattle.sheet_words.specs.Word.{words, value, has_wind, header_length, layout}
-use Rattle.sheet_record.specs.declared.Wind.{Wind}
-use Rattle.sheet_record.specs.declared.Wind.TheVariants as Wind
+use Rattle.std.specs.declared.option.Option.{Option}
+use Rattle.std.specs.declared.result.Result.{Result}
+use Rattle.elementary.specs.declared.error.Refusal.{Refusal}
 use Rattle.sheet_record.specs.declared.Header.{Header}
 use Rattle.sheet_record.specs.declared.Row.{Row}
 use Rattle.sheet_record.specs.declared.Rows.{Rows}
-use Rattle.sheet_record.specs.declared.Readable.{Readable}
-use Rattle.sheet_record.specs.declared.Readable.TheVariants.{Yes, Refused}
 
 -- the value of word i, 0 where there is none
 abbrev pub value_at : List ℕ → ℕ → ℕ
 value_at ws i = value (get_or ws i 0)
 
 -- where the wind comes from, if the sheet tells it
-abbrev pub wind_of : List ℕ → Wind
-wind_of ws = cond (has_wind ws) (Wind.From (value_at ws 9)) Wind.Unknown
+abbrev pub wind_of : List ℕ → Option ℕ
+wind_of ws = cond (has_wind ws) (Some (value_at ws 9)) None
 
 unfoldable pub header_of : List ℕ → Header
 header_of ws = record {
@@ -62,5 +61,5 @@ rows_of ws = first_rows ws (min (contact_count ws) max_contacts)
 unfoldable pub rows : Rows → List Row
 rows r = take r.count r.list
 
-unfoldable pub readable : List ℕ → Readable
-readable s = cond (layout s) (cond (leb (contact_count (words s)) max_contacts) Yes (Refused Why.TooManyContacts)) (Refused Why.Layout)
+unfoldable pub readable : List ℕ → Result (Unit {0}) Refusal
+readable s = cond (layout s) (cond (leb (contact_count (words s)) max_contacts) (Ok tt) (Err Why.TooManyContacts)) (Err Why.Layout)

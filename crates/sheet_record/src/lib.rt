@@ -8,13 +8,6 @@ ghost use Rattle.sheet_record.specs.Record as Spec;
 use elementary::error::Refusal;
 use room::MAX_CONTACTS;
 
-// Where the wind comes from, in 1/1024 degree.
-#[derive(Clone, Copy)]
-pub enum Wind {
-    Unknown,
-    From(u32),
-}
-
 // Angles, speeds and distances count 1/1024, the TCPA limit seconds.
 #[derive(Clone, Copy)]
 pub struct Header {
@@ -27,7 +20,7 @@ pub struct Header {
     pub most: u32,
     pub cpa_limit: u32,
     pub tcpa_limit: u32,
-    pub wind: Wind,
+    pub wind: Option<u32>,
 }
 
 #[derive(Clone, Copy)]
@@ -47,13 +40,6 @@ pub struct Rows {
     pub list: [Row; MAX_CONTACTS],
 }
 
-// Whether the layout and the count are right.
-#[derive(Clone, Copy)]
-pub enum Readable {
-    Yes,
-    Refused(Refusal),
-}
-
 // The value of word i.
 fn value_at(bytes: &[u8], i: usize) -> u32
     ensures { result ≡ Spec.value_at (Words.words bytes.now) i }
@@ -62,13 +48,13 @@ fn value_at(bytes: &[u8], i: usize) -> u32
 }
 
 // Where the wind comes from, if the sheet tells it.
-fn wind_of(bytes: &[u8]) -> Wind
+fn wind_of(bytes: &[u8]) -> Option<u32>
     ensures { result ≡ Spec.wind_of (Words.words bytes.now) }
 {
     if sheet_words::has_wind(bytes) {
-        return Wind::From(value_at(bytes, 9));
+        return Some(value_at(bytes, 9));
     }
-    Wind::Unknown
+    None
 }
 
 // The header of a sheet; what is not there is 0, and an unknown wind.
@@ -138,14 +124,14 @@ pub fn rows_of(bytes: &[u8]) -> Rows
 }
 
 // The layout, then the count of contacts.
-pub fn check_layout(bytes: &[u8]) -> Readable
+pub fn check_layout(bytes: &[u8]) -> Result<(), Refusal>
     ensures { result ≡ Spec.readable bytes.now }
 {
     if sheet_words::in_layout(bytes) {
         if contact_count(bytes) <= MAX_CONTACTS {
-            return Readable::Yes;
+            return Ok(());
         }
-        return Readable::Refused(Refusal::TooManyContacts);
+        return Err(Refusal::TooManyContacts);
     }
-    Readable::Refused(Refusal::Layout)
+    Err(Refusal::Layout)
 }

@@ -1,5 +1,5 @@
 -- What a sheet's numbers stand for (01, 'Encounter sheet and its program': 'angles, speeds, distances count 1/1024'; 'categories: 0 power, 1 sailing, tack unknown, 2 port tack, 3 starboard tack, 4 fishing, 5 draught, 6 restricted, 7 not under command'; 'visibility (0 in sight, 1 restricted)'; R-1: 'where the wind comes from, in 1/1024 degree').
-use Rattle.std.specs.Prelude.{ℕ, cond, pos, ◌==◌, from_bits, Float}
+use Rattle.std.specs.Prelude.{ℕ, cond, pos, ◌==◌, from_bits, Float, None, Some}
 use Rattle.std.specs.Float.{binary64}
 use Rattle.std.specs.Float.Ieee.{of_int}
 use Rattle.laws.specs.Ops.{◌⊘◌}
@@ -10,11 +10,9 @@ use Rattle.situation.specs.declared.party.VesselCategory.TheVariants.{PowerDrive
 use Rattle.situation.specs.declared.party.Visibility.{Visibility}
 use Rattle.situation.specs.declared.party.Visibility.TheVariants.{InSight, Restricted}
 use Rattle.situation.specs.declared.party.Party.{Party}
-use Rattle.situation.specs.declared.party.Perhaps.{Perhaps}
-use Rattle.situation.specs.declared.party.Perhaps.TheVariants.{Unknown, Known}
+use Rattle.std.specs.declared.option.Option.{Option}
+use Rattle.motion.specs.declared.units.Direction.{Direction}
 use Rattle.traffic.specs.declared.Entry.{Entry}
-use Rattle.sheet_record.specs.declared.Wind.{Wind}
-use Rattle.sheet_record.specs.declared.Wind.TheVariants as Wind
 use Rattle.sheet_record.specs.declared.Header.{Header}
 use Rattle.sheet_record.specs.declared.Row.{Row}
 
@@ -42,16 +40,16 @@ unfoldable pub vessel_of : ℕ → ℕ → Vessel
 vessel_of course speed = record { course = record { 0 = scaled course }; speed = record { 0 = scaled speed } }
 
 unfoldable pub party_of : ℕ → ℕ → ℕ → Party
-party_of course speed category = record { motion = vessel_of course speed; heading = Unknown; category = category_of category }
+party_of course speed category = record { motion = vessel_of course speed; heading = None; category = category_of category }
 
 unfoldable pub own_of : Header → Party
 own_of h = party_of h.course h.speed h.category
 
-abbrev pub wind_by : Wind → Perhaps
-wind_by Wind.Unknown = Unknown
-wind_by (Wind.From n) = Known (record { 0 = scaled n })
+abbrev pub wind_by : Option ℕ → Option Direction
+wind_by None = None
+wind_by (Some n) = Some (record { 0 = scaled n })
 
-unfoldable pub wind_from : Header → Perhaps
+unfoldable pub wind_from : Header → Option Direction
 wind_from h = wind_by h.wind
 
 unfoldable pub entry_of : Row → Entry

@@ -9,8 +9,8 @@ ghost use Rattle.sheet_values.specs.Values as Spec;
 use motion::units::{Direction, Distance, Speed};
 use motion::vessel::{Contact, Vessel};
 use room::MAX_CONTACTS;
-use sheet_record::{Header, Row, Rows, Wind};
-use situation::party::{Party, Perhaps, Tack, VesselCategory, Visibility};
+use sheet_record::{Header, Row, Rows};
+use situation::party::{Party, Tack, VesselCategory, Visibility};
 use traffic::{Entry, Traffic};
 
 // A count of 1/1024, exactly.
@@ -78,8 +78,8 @@ fn party_of(course: u32, speed: u32, category: u32) -> Party
     let motion = vessel_of(course, speed);
     let what = category_of(category);
     Party {
-        motion: motion,
-        heading: Perhaps::Unknown,
+        motion,
+        heading: None,
         category: what,
     }
 }
@@ -92,13 +92,13 @@ pub fn own_of(h: Header) -> Party
 }
 
 // Where the wind comes from, if the sheet tells it.
-pub fn wind_from(h: Header) -> Perhaps
+pub fn wind_from(h: Header) -> Option<Direction>
     ensures { result ≡ Spec.wind_from h }
 {
     let wind = h.wind;
     match wind {
-        Wind::Unknown => Perhaps::Unknown,
-        Wind::From(n) => Perhaps::Known(Direction(scaled(n))),
+        None => None,
+        Some(n) => Some(Direction(scaled(n))),
     }
 }
 
@@ -111,10 +111,7 @@ pub fn entry_of(row: Row) -> Entry
         bearing: Direction(scaled(row.bearing)),
         range: Distance(scaled(row.range)),
     };
-    Entry {
-        contact: contact,
-        target: target,
-    }
+    Entry { contact, target }
 }
 
 // The traffic of a sheet's contacts, in their order.

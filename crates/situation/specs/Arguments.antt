@@ -1,5 +1,5 @@
 -- The checks of a situation and of the widths (01, 'The answers by number': own, contact, target, wind, config; inside one in field order).
-use Rattle.std.specs.Prelude.{Bool, List, [], ◌∷◌, ◌++◌, Float}
+use Rattle.std.specs.Prelude.{Bool, List, [], ◌∷◌, ◌++◌, Float, None, Some}
 use Rattle.std.specs.Float.{binary64}
 use Rattle.std.specs.Float.Ieee.{of_bits}
 use Rattle.angle.specs.Fold.{zero}
@@ -7,8 +7,8 @@ use Rattle.elementary.specs.declared.error.Refusal.TheVariants as Why
 use Rattle.elementary.specs.Range.{in_range}
 use Rattle.motion.specs.declared.units.Angle.{Angle}
 use Rattle.arguments.specs.Check.{Check, check, is_direction, vessel_checks, contact_checks}
-use Rattle.situation.specs.declared.party.Perhaps.{Perhaps}
-use Rattle.situation.specs.declared.party.Perhaps.TheVariants as Perhaps
+use Rattle.std.specs.declared.option.Option.{Option}
+use Rattle.motion.specs.declared.units.Direction.{Direction}
 use Rattle.situation.specs.declared.party.Party.{Party}
 use Rattle.situation.specs.declared.party.Situation.{Situation}
 use Rattle.situation.specs.declared.config.ColregsConfig.{ColregsConfig}
@@ -17,9 +17,9 @@ use Rattle.situation.specs.declared.config.ColregsConfig.{ColregsConfig}
 abbrev pub quarter_turn : Float
 quarter_turn = of_bits binary64 0x4056_8000_0000_0000
 
-abbrev pub perhaps_checks : Perhaps → List Check
-perhaps_checks Perhaps.Unknown = []
-perhaps_checks (Perhaps.Known d) = check (is_direction d) Why.Angle ∷ []
+abbrev pub perhaps_checks : Option Direction → List Check
+perhaps_checks None = []
+perhaps_checks (Some d) = check (is_direction d) Why.Angle ∷ []
 
 unfoldable pub party_checks : Party → List Check
 party_checks p = vessel_checks p.motion ++ perhaps_checks p.heading

@@ -1,5 +1,5 @@
 -- Parties and situations (kinavis-colregs lib.rs).
-use Rattle.std.specs.Prelude.{ℕ}
+use Rattle.std.specs.Prelude.{ℕ, None, Some}
 use Rattle.std.specs.Float.{binary64}
 use Rattle.std.specs.Float.Ieee.{of_bits}
 use Rattle.motion.specs.declared.units.Direction.{Direction}
@@ -7,8 +7,7 @@ use Rattle.motion.specs.declared.vessel.Vessel.{Vessel}
 use Rattle.motion.specs.declared.vessel.Contact.{Contact}
 use Rattle.situation.specs.declared.party.VesselCategory.{VesselCategory}
 use Rattle.situation.specs.declared.party.VesselCategory.TheVariants as Category
-use Rattle.situation.specs.declared.party.Perhaps.{Perhaps}
-use Rattle.situation.specs.declared.party.Perhaps.TheVariants as Perhaps
+use Rattle.std.specs.declared.option.Option.{Option}
 use Rattle.situation.specs.declared.party.Party.{Party}
 use Rattle.situation.specs.declared.party.Visibility.{Visibility}
 use Rattle.situation.specs.declared.party.Situation.{Situation}
@@ -24,25 +23,25 @@ precedence Category.RestrictedInAbilityToManoeuvre = 4
 precedence Category.NotUnderCommand = 5
 
 unfoldable pub party : Vessel → VesselCategory → Party
-party motion category = record { motion = motion; heading = Perhaps.Unknown; category = category }
+party motion category = record { motion = motion; heading = None; category = category }
 
 unfoldable pub with_heading : Party → Direction → Party
-with_heading p heading = record { motion = p.motion; heading = Perhaps.Known heading; category = p.category }
+with_heading p heading = record { motion = p.motion; heading = Some heading; category = p.category }
 
 -- a direction, another where it is unknown
-abbrev pub or_else : Perhaps → Direction → Direction
-or_else Perhaps.Unknown other = other
-or_else (Perhaps.Known d) other = d
+abbrev pub or_else : Option Direction → Direction → Direction
+or_else None other = other
+or_else (Some d) other = d
 
 -- the heading defaults to the course
 unfoldable pub heading : Party → Direction
 heading p = or_else p.heading p.motion.course
 
 unfoldable pub situation : Party → Party → Contact → Visibility → Situation
-situation own target contact visibility = record { own = own; target = target; contact = contact; visibility = visibility; wind_from = Perhaps.Unknown }
+situation own target contact visibility = record { own = own; target = target; contact = contact; visibility = visibility; wind_from = None }
 
 unfoldable pub with_wind_from : Situation → Direction → Situation
-with_wind_from s from = record { own = s.own; target = s.target; contact = s.contact; visibility = s.visibility; wind_from = Perhaps.Known from }
+with_wind_from s from = record { own = s.own; target = s.target; contact = s.contact; visibility = s.visibility; wind_from = Some from }
 
 -- `ColregsConfig::STANDARD`: 22.5 and 6 degrees
 abbrev pub standard : ColregsConfig

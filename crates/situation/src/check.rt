@@ -4,28 +4,26 @@ ghost use Rattle.arguments.specs.Check as Check;
 ghost use Rattle.situation.specs.Arguments as Spec;
 
 use crate::config::ColregsConfig;
-use crate::party::{Party, Perhaps, Situation};
-use arguments::Verdict;
+use crate::party::{Party, Situation};
 use elementary::error::Refusal;
-use motion::units::Angle;
+use motion::units::{Angle, Direction};
 
-// A direction where it is known (number 1), then what the checks after it say.
-pub fn check_perhaps(p: Perhaps, rest: Verdict) -> Verdict
-    ensures { result ≡ Check.verdict (Spec.perhaps_checks p) rest }
+// A direction where it is known (number 1).
+pub fn check_perhaps(p: Option<Direction>) -> Result<(), Refusal>
+    ensures { result ≡ Check.checked (Spec.perhaps_checks p) }
 {
     match p {
-        Perhaps::Unknown => rest,
-        Perhaps::Known(d) => arguments::unless(arguments::is_direction(d), Refusal::Angle, rest),
+        None => Ok(()),
+        Some(d) => arguments::ensure(arguments::is_direction(d), Refusal::Angle),
     }
 }
 
-// A party's course, speed and heading, then what the checks after them say.
-pub fn check_party(p: Party, rest: Verdict) -> Verdict
-    ensures { result ≡ Check.verdict (Spec.party_checks p) rest }
+// A party's course, speed and heading.
+pub fn check_party(p: Party) -> Result<(), Refusal>
+    ensures { result ≡ Check.checked (Spec.party_checks p) }
 {
-    let motion = p.motion;
-    let heading = p.heading;
-    arguments::check_vessel(motion, check_perhaps(heading, rest))
+    arguments::check_vessel(p.motion)?;
+    check_perhaps(p.heading)
 }
 
 // From 0 to 90 degrees.
@@ -35,29 +33,20 @@ fn is_width(a: Angle) -> bool
     elementary::error::ensure_range(a.0, 0.0, 90.0)
 }
 
-// Both widths, 0 to 90 degrees (number 4), then what the checks after them say.
-pub fn check_config(c: ColregsConfig, rest: Verdict) -> Verdict
-    ensures { result ≡ Check.verdict (Spec.config_checks c) rest }
+// Both widths, 0 to 90 degrees (number 12).
+pub fn check_config(c: ColregsConfig) -> Result<(), Refusal>
+    ensures { result ≡ Check.checked (Spec.config_checks c) }
 {
-    let overtaking = c.overtaking_abaft_beam;
-    let head_on = c.head_on_half_width;
-    arguments::unless(
-        is_width(overtaking),
-        Refusal::Config,
-        arguments::unless(is_width(head_on), Refusal::Config, rest),
-    )
+    arguments::ensure(is_width(c.overtaking_abaft_beam), Refusal::Config)?;
+    arguments::ensure(is_width(c.head_on_half_width), Refusal::Config)
 }
 
 // Own craft, the contact, the target, the wind.
-pub fn check_situation(s: Situation, rest: Verdict) -> Verdict
-    ensures { result ≡ Check.verdict (Spec.situation_checks s) rest }
+pub fn check_situation(s: Situation) -> Result<(), Refusal>
+    ensures { result ≡ Check.checked (Spec.situation_checks s) }
 {
-    let own = s.own;
-    let contact = s.contact;
-    let target = s.target;
-    let wind_from = s.wind_from;
-    check_party(
-        own,
-        arguments::check_contact(contact, check_party(target, check_perhaps(wind_from, rest))),
-    )
+    check_party(s.own)?;
+    arguments::check_contact(s.contact)?;
+    check_party(s.target)?;
+    check_perhaps(s.wind_from)
 }

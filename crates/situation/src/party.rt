@@ -23,18 +23,11 @@ pub enum VesselCategory {
     NotUnderCommand,
 }
 
-// A direction that may be unknown.
-#[derive(Clone, Copy)]
-pub enum Perhaps {
-    Unknown,
-    Known(Direction),
-}
-
 // A vessel in an encounter: how she moves, where she heads if that is known, what she is.
 #[derive(Clone, Copy)]
 pub struct Party {
     pub motion: Vessel,
-    pub heading: Perhaps,
+    pub heading: Option<Direction>,
     pub category: VesselCategory,
 }
 
@@ -50,7 +43,7 @@ pub struct Situation {
     pub target: Party,
     pub contact: Contact,
     pub visibility: Visibility,
-    pub wind_from: Perhaps,
+    pub wind_from: Option<Direction>,
 }
 
 impl VesselCategory {
@@ -75,9 +68,9 @@ impl Party {
         ensures { result ≡ Spec.party motion category }
     {
         Party {
-            motion: motion,
-            heading: Perhaps::Unknown,
-            category: category,
+            motion,
+            heading: None,
+            category,
         }
     }
 
@@ -85,12 +78,9 @@ impl Party {
     pub fn with_heading(self, heading: Direction) -> Party
         ensures { result ≡ Spec.with_heading self heading }
     {
-        let motion = self.motion;
-        let category = self.category;
         Party {
-            motion: motion,
-            heading: Perhaps::Known(heading),
-            category: category,
+            heading: Some(heading),
+            ..self
         }
     }
 
@@ -98,11 +88,7 @@ impl Party {
     pub fn heading(self) -> Direction
         ensures { result ≡ Spec.heading self }
     {
-        let known = self.heading;
-        match known {
-            Perhaps::Unknown => self.motion.course,
-            Perhaps::Known(heading) => heading,
-        }
+        self.heading.unwrap_or(self.motion.course)
     }
 }
 
@@ -112,11 +98,11 @@ impl Situation {
         ensures { result ≡ Spec.situation own target contact visibility }
     {
         Situation {
-            own: own,
-            target: target,
-            contact: contact,
-            visibility: visibility,
-            wind_from: Perhaps::Unknown,
+            own,
+            target,
+            contact,
+            visibility,
+            wind_from: None,
         }
     }
 
@@ -124,16 +110,9 @@ impl Situation {
     pub fn with_wind_from(self, from: Direction) -> Situation
         ensures { result ≡ Spec.with_wind_from self from }
     {
-        let own = self.own;
-        let target = self.target;
-        let contact = self.contact;
-        let visibility = self.visibility;
         Situation {
-            own: own,
-            target: target,
-            contact: contact,
-            visibility: visibility,
-            wind_from: Perhaps::Known(from),
+            wind_from: Some(from),
+            ..self
         }
     }
 }

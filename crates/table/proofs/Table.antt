@@ -1,4 +1,5 @@
 -- Document 01's marked corners, the examples of its table of refusals, and the reading of its sample sheet, in one table: what the definitions compute, and what it must be. The quoted sentences are document 01's.
+use Rattle.std.specs.Prelude.{None, Some}
 use mathlib.Core.Path.{◌≡◌, refl}
 use mathlib.Core.Bool.{false, true}
 use mathlib.Core.List.{List, [], ◌++◌, ◌∷◌, flat_map}
@@ -41,7 +42,6 @@ use Rattle.elementary.specs.declared.error.Refusal.TheVariants as Refusal
 use Rattle.relative_motion.specs.declared.approach.Approach.TheVariants as Approach
 use Rattle.risk.specs.declared.CollisionRisk.TheVariants as Risk
 use Rattle.manoeuvre.specs.declared.Side.TheVariants as Turn
-use Rattle.manoeuvre.specs.declared.Limiting.TheVariants as Limiting
 use Rattle.relative_motion.specs.Approach.{approach, approach_from, closest, closing_rate, cpa_answer, cpa_number, relative_speed, time_of, time_to_go}
 use Rattle.bow.specs.Bow.{bow_answer, bow_number, crossing, determinant, not_negative}
 use Rattle.plot.specs.Plot.{plot_answer, plot_checks, plot_number, plot_verdict, relative_motion, solution, solved}
@@ -49,7 +49,6 @@ use Rattle.plot.specs.Plot as plots
 use Rattle.course.specs.Course.{along, at_speed, avoidance_of, choice_of, clamped, course_answer, course_for, course_number, grazing, offered}
 use Rattle.situation.specs.Arguments.{is_width, party_checks, situation_checks}
 use Rattle.situation.specs.Situation.{heading, party, situation, with_heading, with_wind_from}
-use Rattle.situation.specs.declared.party.Perhaps.TheVariants.{Unknown}
 use Rattle.situation.specs.declared.party.Visibility.TheVariants.{Restricted}
 use Rattle.facts.specs.Facts.{aspect_of, facts_of, is_closing, larger, range_rate, relative_of, speed_of}
 use Rattle.colregs.specs.Colregs.{abaft, decided, encounter_of, forward_of_beam, is_head_on, own_comes_up, own_overtakes, permitted, port_by17, port_by19, rule18, ruling_answer, ruling_for, ruling_of, side_of, starboard_by19, target_comes_up, target_overtakes}
@@ -63,7 +62,6 @@ use Rattle.assessment.specs.Assess.{assess_answer, assessment}
 use Rattle.trials.specs.Trials.{last, trial, trials, trials_from}
 use Rattle.constraints.specs.Constraints.{constraint_checks, constraints_answer, constraints_number, with_rate_of_turn}
 use Rattle.manoeuvre.specs.Manoeuvre as manoeuvres
-use Rattle.constraints.specs.declared.PerhapsRate.TheVariants as Rate
 use Rattle.constraints.specs.declared.PermittedSides.TheVariants as Sides
 use Rattle.clearing.specs.Clearing.{altered, clearing, clears, floor_of, join, passage, tally}
 use Rattle.traffic.specs.Traffic.{contacts_checks, entry_checks, target_of}
@@ -189,14 +187,14 @@ table =
     ∷ row (constraints_number (with_rate (constraints_answer Sides.Either (degrees 0) (degrees 180)) 0x0000_1268_8b70_e62b)) 4
     ∷ row (constraints_number (with_rate (constraints_answer Sides.Either (degrees 0) (degrees 180)) 0xbff0_0000_0000_0000)) 0
     ∷ row (constraints_number (with_rate (constraints_answer Sides.Either (degrees 0) (degrees 180)) 0x01a5_6e1f_c2f8_f359)) 0
-    ∷ row (seconds (manoeuvres.turn_time (number 1) (Rate.Of (turning 0x01a5_6e1f_c2f8_f359)))) 1
-    ∷ row (seconds (manoeuvres.turn_time (number 10) (Rate.Of (turning 0x4024_0000_0000_0000)))) 60
+    ∷ row (seconds (manoeuvres.turn_time (number 1) (Some (turning 0x01a5_6e1f_c2f8_f359)))) 1
+    ∷ row (seconds (manoeuvres.turn_time (number 10) (Some (turning 0x4024_0000_0000_0000)))) 60
     -- an alteration of -0 is to starboard, of -1 to port
     ∷ row (side_code (manoeuvres.side_of (record { 0 = bits 0x8000_0000_0000_0000 }))) 1
     ∷ row (side_code (manoeuvres.side_of (record { 0 = bits 0xbff0_0000_0000_0000 }))) 2
     -- the examples of refusals 5 (range 0.5 on the bow, desired 1, most 5), 13 (restricted, one head_on, one at relative 120) and 14 (33 contacts)
     ∷ row (ruled_number (search 1 (meets (record { bearing = direction 0; range = record { 0 = bits 0x3fe0_0000_0000_0000 } }) (moving 0 0) ∷ []) (miles 1) 0 5)) 5
-    ∷ row (ruled_number (ruled_answer (power 0 10) 2 (meets (at 0 4) (moving 180 10) ∷ meets (at 120 4) (moving 270 10) ∷ []) Restricted Unknown (miles 1) (between Sides.Either 0 5))) 13
+    ∷ row (ruled_number (ruled_answer (power 0 10) 2 (meets (at 0 4) (moving 180 10) ∷ meets (at 120 4) (moving 270 10) ∷ []) Restricted None (miles 1) (between Sides.Either 0 5))) 13
     ∷ row (ruled_number (search 33 [] (miles 1) 0 5)) 14
     -- ---- the encounter sheet
     -- the sample: starboard 15, course 15, 1.035 nm, the first contact; and what is printed on it
@@ -228,8 +226,8 @@ table =
     ∷ says (contact_line 12 (Approach.Stationary (record { 0 = bits 0x408f_ffff_0000_0000 })) Risk.Opening (ruling HeadOn Both Rule14)) "CONTACT 12 STATIONARY 1024.000 - OPENING HEAD-ON BOTH 14\n"
     ∷ says (contact_line 1 (closing 0x8000_0000_0000_0000 0 0) Risk.Developing (ruling (Crossing Starboard) Undetermined Rule12)) "CONTACT 1 CLOSING 0.000 0 DEVELOPING CROSSING-S UNDETERMINED 12\n"
     -- without contacts; to port at 0; refusals
-    ∷ says (alter_line (turn Turn.Starboard 0 0x4066_8000_0000_0000 0x7fef_ffff_ffff_ffff Limiting.Nobody) 0) "ALTER S 0.000 180.000 FREE NONE\n"
-    ∷ says (alter_line (turn Turn.Port 0 0 0x3ff0_0000_0000_0000 (Limiting.Contact 3)) 21) "ALTER P 0.000 0.000 1.000 21\n"
+    ∷ says (alter_line (turn Turn.Starboard 0 0x4066_8000_0000_0000 0x7fef_ffff_ffff_ffff None) 0) "ALTER S 0.000 180.000 FREE NONE\n"
+    ∷ says (alter_line (turn Turn.Port 0 0 0x3ff0_0000_0000_0000 (Some 3)) 21) "ALTER P 0.000 0.000 1.000 21\n"
     ∷ says (refused_line Refusal.NoTrialClears) "REFUSED 5\n"
     ∷ says (refused_line Refusal.UnknownCode) "REFUSED 16\n"
     ∷ []

@@ -8,7 +8,7 @@ use Rattle.time.specs.Clock.{is_before}
 use Rattle.time.specs.declared.Duration.{Duration}
 use Rattle.risk.specs.declared.CollisionRisk.{CollisionRisk}
 use Rattle.risk.specs.Risk.{rank}
-use Rattle.assessment.specs.declared.assess.PerhapsTime.{PerhapsTime}
+use Rattle.std.specs.declared.option.Option.{Option}
 use Rattle.assessment.specs.declared.assess.CollisionAssessment.{CollisionAssessment}
 use Rattle.assessment.specs.Assess.{time_in}
 use Rattle.targets.specs.Picture.{time_of, outranks}
@@ -27,7 +27,7 @@ module _ (a b : CollisionAssessment) (p q : CollisionRisk) (m n : ℕ) (ep : p �
       before : Bool
       before = is_before (time_of (time_in a.cpa)) (time_of (time_in b.cpa))
 
-  pub same_rank : m ≡ n → (t u : PerhapsTime) (d e : Duration) (r : Bool) → t ≡ time_in a.cpa → d ≡ time_of t → u ≡ time_in b.cpa → e ≡ time_of u → r ≡ is_before d e → r ≡ outranks a b
+  pub same_rank : m ≡ n → (t u : Option Duration) (d e : Duration) (r : Bool) → t ≡ time_in a.cpa → d ≡ time_of t → u ≡ time_in b.cpa → e ≡ time_of u → r ≡ is_before d e → r ≡ outranks a b
   same_rank h t u d e r et ed eu ee er = er ∙ ap (λ x. is_before x e) (ed ∙ ap time_of et) ∙ ap (is_before (time_of (time_in a.cpa))) (ee ∙ ap time_of eu) ∙ by true (eq-eqb m n h)
 
   pub other_rank : (m ≡ n → ⊥) → ltb n m ≡ outranks a b

@@ -4,7 +4,7 @@
 ghost use Rattle.std.specs.Prelude.{◌≡◌};
 ghost use Rattle.targets.specs.Picture as Spec;
 
-use assessment::assess::{CollisionAssessment, PerhapsTime};
+use assessment::assess::CollisionAssessment;
 use risk::CollisionRisk;
 use time::Duration;
 
@@ -15,22 +15,16 @@ pub struct TargetAssessment {
     pub assessment: CollisionAssessment,
 }
 
-#[derive(Clone, Copy)]
-pub enum PerhapsTarget {
-    Nothing,
-    Of(TargetAssessment),
-}
-
 // The time to go, the longest one where the range does not close.
-fn time_of(p: PerhapsTime) -> Duration
+fn time_of(p: Option<Duration>) -> Duration
     ensures { result ≡ Spec.time_of p }
 {
     match p {
-        PerhapsTime::Nothing => Duration {
+        None => Duration {
             secs: 18446744073709551615,
             nanos: 999999999,
         },
-        PerhapsTime::Of(d) => d,
+        Some(d) => d,
     }
 }
 
@@ -50,33 +44,37 @@ fn outranks(a: CollisionAssessment, b: CollisionAssessment) -> bool
 }
 
 // The more dangerous of the best so far and the next one, the next on equality.
-pub fn keep(best: PerhapsTarget, e: TargetAssessment) -> PerhapsTarget
+pub fn keep(best: Option<TargetAssessment>, e: TargetAssessment) -> Option<TargetAssessment>
     ensures { result ≡ Spec.keep best e }
 {
     match best {
-        PerhapsTarget::Nothing => PerhapsTarget::Of(e),
-        PerhapsTarget::Of(b) => {
+        None => Some(e),
+        Some(b) => {
             let held = b.assessment;
             let next = e.assessment;
             if outranks(held, next) {
-                return PerhapsTarget::Of(b);
+                return Some(b);
             }
-            PerhapsTarget::Of(e)
+            Some(e)
         }
     }
 }
 
 // What was found so far, else the next one where it has the number.
-pub fn or_this(found: PerhapsTarget, target: u32, e: TargetAssessment) -> PerhapsTarget
+pub fn or_this(
+    found: Option<TargetAssessment>,
+    target: u32,
+    e: TargetAssessment,
+) -> Option<TargetAssessment>
     ensures { result ≡ Spec.or_this target found e }
 {
     match found {
-        PerhapsTarget::Of(t) => PerhapsTarget::Of(t),
-        PerhapsTarget::Nothing => {
+        Some(t) => Some(t),
+        None => {
             if e.target == target {
-                return PerhapsTarget::Of(e);
+                return Some(e);
             }
-            PerhapsTarget::Nothing
+            None
         }
     }
 }

@@ -1,4 +1,5 @@
 -- The answers branch by branch, as the code has them, and the order of times.
+use Rattle.std.specs.Prelude.{Err, Ok}
 use Rattle.std.proofs.Common.{◌≡◌, ℕ, ◌+◌, ◌*◌, ◌<◌, Bool, true, false, cond, ◌||◌, T, eqb, ltb, sym, refl, ap, ◌∙◌, arith, lit<, eqb→eq, ltb→lt, lt→ltb}
 use mathlib.Core.Bool.{beq}
 use lib.Ieee.{Float, nan, inf, fin, up, down, lt, le, eq, of_bits}
@@ -9,7 +10,7 @@ use Rattle.laws.proofs.Bools.{holds, fails, refuted, or_right, or_elim, same_tes
 use Rattle.laws.proofs.Order.{eq_sym, eq-lt}
 use Rattle.laws.proofs.Whole.{closest-zero}
 use Rattle.time.specs.declared.Duration.{Duration}
-use Rattle.time.specs.declared.TimeAnswer.TheVariants.{Of, TooLong, NoTime}
+use Rattle.time.specs.declared.TimeError.TheVariants.{NoTime, TooLong}
 use Rattle.time.specs.Clock.{zero as none, too_long, clock, nanos_in, from_seconds, is_before, longest, is_accepted}
 use Rattle.time.proofs.Nanoseconds.{clock_of}
 
@@ -18,11 +19,11 @@ not_below : (x : Float) → lt none x ≡ true → le none x ≡ true
 unfolding le
 not_below x p = rw p refl
 
-pub in-time : (x : Float) (d : Duration) → lt none x ≡ true → lt x too_long ≡ true → d ≡ clock (nanos_in x) → Of d ≡ from_seconds x
+pub in-time : (x : Float) (d : Duration) → lt none x ≡ true → lt x too_long ≡ true → d ≡ clock (nanos_in x) → Ok d ≡ from_seconds x
 unfolding from_seconds
-in-time x d p q e = rw (not_below x p, q) (ap Of e)
+in-time x d p q e = rw (not_below x p, q) (ap Ok e)
 
-pub over_long : (x : Float) → lt none x ≡ true → lt x too_long ≡ false → TooLong ≡ from_seconds x
+pub over_long : (x : Float) → lt none x ≡ true → lt x too_long ≡ false → (Err TooLong) ≡ from_seconds x
 unfolding from_seconds
 over_long x p q = rw (not_below x p, q) refl
 
@@ -38,11 +39,11 @@ nothing (fin s m e) p =
     size : (a d : ℕ) → a * 1 ≡ 0 * 1 * d → a ≡ 0
     size a d h = omega arith
 
-pub no_seconds : (x : Float) → eq x none ≡ true → Of (record { secs = 0; nanos = 0 }) ≡ from_seconds x
+pub no_seconds : (x : Float) → eq x none ≡ true → Ok (record { secs = 0; nanos = 0 }) ≡ from_seconds x
 unfolding from_seconds
-no_seconds x p = rw (is_true (le none x) (unfold le in or_right (lt none x) (eq none x) (eq_sym x none (holds p))), is_true (lt x too_long) (eq-lt x none too_long (holds p) (unfold lt of_bits in tt))) (ap Of (sym (nothing x p)))
+no_seconds x p = rw (is_true (le none x) (unfold le in or_right (lt none x) (eq none x) (eq_sym x none (holds p))), is_true (lt x too_long) (eq-lt x none too_long (holds p) (unfold lt of_bits in tt))) (ap Ok (sym (nothing x p)))
 
-pub not_a_time : (x : Float) → lt none x ≡ false → eq x none ≡ false → NoTime ≡ from_seconds x
+pub not_a_time : (x : Float) → lt none x ≡ false → eq x none ≡ false → (Err NoTime) ≡ from_seconds x
 unfolding from_seconds
 not_a_time x p q = rw (refuted (le none x) (λ t. or_elim (lt none x) (eq none x) (fails p) (λ e. fails q (eq_sym none x e)) (unfold le in t))) refl
 
@@ -60,14 +61,6 @@ before_is a b p q = go (eqb a.secs b.secs) (eqb→eq a.secs b.secs) (λ e. eq→
         (λ h. lt→ltb a.secs b.secs (omega (arith, g, ltb→lt (a.secs * 1000000000 + a.nanos) (b.secs * 1000000000 + b.nanos) h)))
 
 -- ---- is_before and is_accepted
-pub same_second : (a b : Duration) → a.secs ≡ b.secs → ltb a.nanos b.nanos ≡ is_before a b
-unfolding is_before
-same_second a b e = rw (is_true (eqb a.secs b.secs) (eq→eqb e)) refl
-
-pub other_second : (a b : Duration) → ¬ (a.secs ≡ b.secs) → ltb a.secs b.secs ≡ is_before a b
-unfolding is_before
-other_second a b n = rw (refuted (eqb a.secs b.secs) (λ t. n (eqb→eq a.secs b.secs t))) refl
-
 pub longer : (d : Duration) (r : Bool) → r ≡ is_before longest d → r ≡ true → false ≡ is_accepted d
 unfolding is_accepted
 longer d r e p = rw (sym e ∙ p) refl

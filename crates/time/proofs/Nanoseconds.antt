@@ -1,5 +1,5 @@
 -- A binary fraction of a second in nanoseconds: the product with 10 ^ 9 by halves of 26 bits, the quotient and the remainder by 2 ^ d, and the carry into seconds.
-use Rattle.std.proofs.Common.{◌≡◌, ℕ, suc, ◌+◌, ◌-◌, ◌*◌, ◌/◌, ◌%◌, ◌^◌, ◌<◌, ◌≤◌, sym, ap, ◌∙◌, subst, le_trans, lt_of_lt_of_le, lt_of_le_of_lt, le_of_lt, mod-lt, mod-eq_of_lt, mul-lt-mul_of_pos_right, one-mul, div-add-mod', div-le_self, arith, lit<, lit≤, pow_pos, pow_mono, pow-add}
+use Rattle.std.proofs.Common.{◌≡◌, ℕ, suc, ◌+◌, ◌-◌, ◌*◌, ◌/◌, ◌%◌, ◌^◌, ◌<◌, ◌≤◌, sym, ap, ◌∙◌, subst, le_trans, lt_of_lt_of_le, lt_of_le_of_lt, le_of_lt, mod-lt, mul-lt-mul_of_pos_right, div-add-mod', div-le_self, arith, lit<, lit≤, pow_pos, pow_mono, pow-add}
 use lib.Pow.{pow-lt}
 use lib.Ieee.Nearest.{closest, closest_same}
 use Rattle.laws.specs.Rounding.{NearestWhole}
@@ -7,11 +7,17 @@ use Rattle.laws.proofs.Whole.{nearest_below, nearest_above, nearest_tie, is_clos
 use Rattle.time.specs.declared.Duration.{Duration}
 use Rattle.time.specs.Clock.{clock}
 
--- ---- power_of_two
-pub power : (k : ℕ) → k < 63 → (1 * 2 ^ k % 2 ^ 64 ≡ 2 ^ k) × (0 < 1 * 2 ^ k % 2 ^ 64) × (1 * 2 ^ k % 2 ^ 64 < 2 ^ 63)
-power k h =
-    let e : 1 * 2 ^ k % 2 ^ 64 ≡ 2 ^ k = ap (λ t. t % 2 ^ 64) (one-mul (2 ^ k)) ∙ mod-eq_of_lt (lt_of_lt_of_le (pow-lt h) (lit≤ tt)) in
-    (e, subst (λ t. 0 < t) (sym e) (pow_pos k), subst (λ t. t < 2 ^ 63) (sym e) (pow-lt h))
+-- ---- a power of two, from what `power_of_two` says of it
+pub power : (k r : ℕ) → k < 64 → (k < 64 → r ≡ 2 ^ k) → (r ≡ 2 ^ k) × (0 < r)
+power k r h is = (is h, subst (λ t. 0 < t) (sym (is h)) (pow_pos k))
+
+-- twice the half of 2 ^ d, in the weight of 2 ^ 26, fits a word
+pub twice_half : (d r : ℕ) → d ≤ 83 → (d - 27 < 64 → r ≡ 2 ^ (d - 27)) → 2 * r < 2 ^ 64
+twice_half d r h is =
+    let e : r ≡ 2 ^ (d - 27) = is (omega arith) in
+    let small : d - 27 < 63 = omega arith in
+    let l : 2 ^ (d - 27) < 2 ^ 63 = pow-lt small in
+    omega (arith, e, l)
 
 -- ---- fraction_nanos. The fraction f / 2 ^ d times 10 ^ 9 is q and the rest (rest * 2 ^ 26 + low) / 2 ^ d, and p is half of 2 ^ d in the weight of rest
 module _ (f d p : ℕ) (few : f < 2 ^ 53) (least : 53 ≤ d) (is : p ≡ 2 ^ (d - 27)) (some : 0 < p) where

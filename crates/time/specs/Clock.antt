@@ -1,12 +1,13 @@
 -- Times, after document 01's paragraph on leaf helpers: 'hours to time: × 3600, nearest nanosecond, ties to even. Seconds to time rounds likewise. Time to hours: the seconds plus nanoseconds / 10^9, each as f64, then / 3600.'
-use Rattle.std.specs.Prelude.{ℕ, ◌*◌, ◌/◌, ◌%◌, ◌^◌, Bool, cond, not, ◌&&◌, pos, ◌==◌, from_bits, nat_lt, Float}
+use Rattle.std.specs.Prelude.{ℕ, ◌*◌, ◌/◌, ◌%◌, ◌^◌, Bool, cond, not, ◌&&◌, pos, ◌==◌, from_bits, nat_lt, Float, Err, Ok}
 use Rattle.std.specs.Float.{binary64}
 use Rattle.std.specs.Float.Ieee.{add, mul, div, lt, le, of_int}
 use Rattle.std.specs.Float.Ieee.Nearest.{closest}
 use Rattle.std.specs.Float.Ieee.Positive.{num, den}
 use Rattle.time.specs.declared.Duration.{Duration}
-use Rattle.time.specs.declared.TimeAnswer.{TimeAnswer}
-use Rattle.time.specs.declared.TimeAnswer.TheVariants.{Of, TooLong, NoTime}
+use Rattle.std.specs.declared.result.Result.{Result}
+use Rattle.time.specs.declared.TimeError.{TimeError}
+use Rattle.time.specs.declared.TimeError.TheVariants.{NoTime, TooLong}
 
 -- n nanoseconds as a time
 unfoldable pub clock : ℕ → Duration
@@ -29,11 +30,11 @@ seconds_per_hour = from_bits binary64 0x40ac_2000_0000_0000
 abbrev pub billion : Float
 billion = from_bits binary64 0x41cd_cd65_0000_0000
 
-unfoldable pub from_seconds : Float → TimeAnswer
+unfoldable pub from_seconds : Float → Result Duration TimeError
 unfolding clock nanos_in
-from_seconds x = cond (le zero x) (cond (lt x too_long) (Of (clock (nanos_in x))) TooLong) NoTime
+from_seconds x = cond (le zero x) (cond (lt x too_long) (Ok (clock (nanos_in x))) (Err TooLong)) (Err NoTime)
 
-unfoldable pub from_hours : Float → TimeAnswer
+unfoldable pub from_hours : Float → Result Duration TimeError
 unfolding from_seconds
 from_hours x = from_seconds (mul binary64 x seconds_per_hour)
 

@@ -9,17 +9,18 @@ ghost use Rattle.std.specs.Float.Ieee.{lt};
 ghost use Rattle.std.specs.Float.Ieee.Nearest.{closest};
 ghost use Rattle.time.specs.Clock.{clock, nanos_in, from_seconds, from_hours, hours_of, is_before, is_accepted};
 
+use math::{LEADING, power_of_two};
+
 // A length of time. Fewer than 10^9 nanoseconds, in what the functions here answer.
-#[derive(Clone, Copy)]
+#[derive(Clone, Copy, PartialEq, Eq, PartialOrd, Ord)]
 pub struct Duration {
     pub secs: u64,
     pub nanos: u32,
 }
 
-// A number of seconds or hours as a time.
+// Why a number of seconds or hours is no time.
 #[derive(Clone, Copy)]
-pub enum TimeAnswer {
-    Of(Duration),
+pub enum TimeError {
     // 2^64 seconds and more, which no Duration holds.
     TooLong,
     // Below 0, or not a number.
@@ -28,18 +29,8 @@ pub enum TimeAnswer {
 
 const NANOS_PER_SECOND: u64 = 1000000000;
 
-// 2^52: the weight of the leading digit of a normal f64, and of the exponent's field in its pattern.
-const LEADING: u64 = 4503599627370496;
-
 // The half of a 53-digit number: 2^26.
 const HALF: u64 = 67108864;
-
-fn power_of_two(k: u64) -> u64
-    requires { k < 63 }
-    ensures { (result ≡ 2 ^ k) × (0 < result) × (result < 2 ^ 63) }
-{
-    1 << k
-}
 
 // f / 2^d of a second in nanoseconds. The product f * 10^9 is c * 2^26 + low.
 fn fraction_nanos(f: u64, d: u64) -> u64
@@ -120,23 +111,23 @@ fn positive_seconds(x: f64) -> Duration
 }
 
 // A number of seconds as a time, to the nearest nanosecond, ties to even.
-pub fn duration_from_secs(seconds: f64) -> TimeAnswer
+pub fn duration_from_secs(seconds: f64) -> Result<Duration, TimeError>
     ensures { result ≡ from_seconds seconds }
 {
     if seconds > 0.0 {
         if seconds < 18446744073709551616.0 {
-            return TimeAnswer::Of(positive_seconds(seconds));
+            return Ok(positive_seconds(seconds));
         }
-        return TimeAnswer::TooLong;
+        return Err(TimeError::TooLong);
     }
     if seconds == 0.0 {
-        return TimeAnswer::Of(Duration { secs: 0, nanos: 0 });
+        return Ok(Duration { secs: 0, nanos: 0 });
     }
-    TimeAnswer::NoTime
+    Err(TimeError::NoTime)
 }
 
 // A number of hours as a time: times 3600, rounded once, and then as `duration_from_secs`.
-pub fn duration_from_hours(hours: f64) -> TimeAnswer
+pub fn duration_from_hours(hours: f64) -> Result<Duration, TimeError>
     ensures { result ≡ from_hours hours }
 {
     duration_from_secs(hours * 3600.0)
@@ -156,12 +147,7 @@ impl Duration {
     pub fn is_before(self, other: Duration) -> bool
         ensures { result ≡ is_before self other }
     {
-        let secs = self.secs;
-        let other_secs = other.secs;
-        if secs == other_secs {
-            return self.nanos < other.nanos;
-        }
-        secs < other_secs
+        self < other
     }
 
     // Whether document 01 accepts this time where one is handed in: at most 2^53 s, with fewer than 10^9 nanoseconds.

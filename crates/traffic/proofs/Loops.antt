@@ -1,14 +1,15 @@
 -- The loops over the entries: the scene that is filled from the front, and the checks, which are joined from the back.
+use Rattle.std.specs.Prelude.{Ok, Err, refl}
 use mathlib.Core.Path.{◌≡◌, sym, ap, ◌∙◌, subst}
 use mathlib.Core.List.{List, [], ◌∷◌, ◌++◌, map, map-map, map-append}
-use Prim.Native.Nat.{ℕ, suc, ◌+◌, ◌-◌, ◌≤◌, ◌<◌, min}
+use Prim.Native.Nat.{ℕ, ◌+◌, ◌<◌, min}
 use native.Mathlib.Numerals.{add-one}
-use native.Mathlib.Omega.{arith}
-use lib.ListN.{length, get_or, set, take, length-set}
-use lib.Seq.{slice, slice-cons, slice_empty, take-suc, take-suc-set}
-use Rattle.arguments.specs.declared.Verdict.{Verdict}
-use Rattle.arguments.specs.Check.{verdict}
-use Rattle.arguments.proofs.Checks.{verdict_joined}
+use lib.ListN.{length, get_or, set, take, drop, length-set}
+use lib.Seq.{take-suc, take-suc-set}
+use Rattle.std.specs.declared.result.Result.{Result}
+use Rattle.elementary.specs.declared.error.Refusal.{Refusal}
+use Rattle.arguments.specs.Check.{checked}
+use Rattle.arguments.proofs.Lists.{passed, stopped, ended}
 use Rattle.passages.specs.declared.Moving.{Moving}
 use Rattle.clearing.specs.Clearing.{moving}
 use Rattle.room.proofs.Counts.{take-held}
@@ -35,28 +36,20 @@ module _ (room : ℕ) (entries : List Entry) where
   pub filled : (list : List Moving) (i n count : ℕ) → i ≡ n → n ≡ min count room → length entries ≡ room → Filled room entries list i → take n list ≡ map moving (map target_of (take count entries))
   filled list i n count e is full f = ap (λ k. take k list) (sym e) ∙ f.same ∙ ap (map moving_of) (ap (λ k. take k entries) (e ∙ is ∙ ap (min count) (sym full)) ∙ take-held count entries) ∙ sym (map-map moving target_of (take count entries))
 
--- ---- the checks
-module _ (entries : List Entry) (n : ℕ) (rest : Verdict) where
+-- ---- the checks, entry by entry
+module _ (entries : List Entry) where
   -- what the entries from i on say
-  abbrev pub from : ℕ → Verdict
-  from i = verdict (contacts_checks (slice i n entries)) rest
+  abbrev pub left : ℕ → Result (Unit {0}) Refusal
+  left i = checked (contacts_checks (drop i entries))
 
-  pub begins : rest ≡ from n
-  unfolding contacts_checks verdict
-  begins = sym (ap (λ l. verdict (contacts_checks l) rest) (slice_empty n entries))
-
-  pub one_more : (i : ℕ) (d : Entry) (v w : Verdict) → 0 < i → i ≤ n → n ≤ length entries → v ≡ from i → w ≡ verdict (entry_checks (get_or entries (i - 1) d)) v → w ≡ from (i - 1)
+  pub entry_passed : (i : ℕ) (d : Entry) → i < length entries → Ok tt ≡ checked (entry_checks (get_or entries i d)) → left (i + 1) ≡ left i
   unfolding contacts_checks
-  one_more i d v w p h k e q =
-      q ∙ ap (verdict (entry_checks (get_or entries (i - 1) d))) (e ∙ ap from (sym (next i p)))
-      ∙ sym (verdict_joined (entry_checks (get_or entries (i - 1) d)) (contacts_checks (slice (suc (i - 1)) n entries)) rest)
-      ∙ sym (ap (λ l. verdict (contacts_checks l) rest) (slice-cons (i - 1) n entries d (below i n p h) k))
-    where
-      next : (i : ℕ) → 0 < i → suc (i - 1) ≡ i
-      next i p = omega arith
+  entry_passed i d h ok = passed entry_checks contacts_checks (λ e es. refl) entries i d h ok
 
-      below : (i n : ℕ) → 0 < i → i ≤ n → i - 1 < n
-      below i n p h = omega arith
+  pub entry_refused : (i : ℕ) (d : Entry) (why : Refusal) → i < length entries → Err why ≡ checked (entry_checks (get_or entries i d)) → Err why ≡ left i
+  unfolding contacts_checks
+  entry_refused i d why h k = stopped entry_checks contacts_checks (λ e es. refl) entries i d why h k
 
-  pub all_checked : (i count room : ℕ) (v : Verdict) → i ≡ 0 → n ≡ min count room → length entries ≡ room → v ≡ from i → v ≡ verdict (contacts_checks (take count entries)) rest
-  all_checked i count room v z is full e = e ∙ ap from z ∙ ap (λ k. verdict (contacts_checks (take k entries)) rest) (is ∙ ap (min count) (sym full)) ∙ ap (λ l. verdict (contacts_checks l) rest) (take-held count entries)
+  pub all_passed : (i : ℕ) → i ≡ length entries → Ok tt ≡ left i
+  unfolding contacts_checks
+  all_passed i e = ended entry_checks contacts_checks (λ e es. refl) entries i e refl

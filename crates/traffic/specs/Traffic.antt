@@ -1,7 +1,5 @@
 -- The traffic as a list, and its checks (01, 'The answers by number': 'the order count of contacts, own, contact …; a list goes entry by entry, contact then target').
 use Rattle.std.specs.Prelude.{List, [], ◌∷◌, ◌++◌, map, ℕ, take, leb}
-use Rattle.std.specs.Float.{binary64}
-use Rattle.std.specs.Float.Ieee.{of_bits}
 use Rattle.elementary.specs.declared.error.Refusal.TheVariants as Why
 use Rattle.arguments.specs.Check.{zero, Check, check, contact_checks}
 use Rattle.situation.specs.Arguments.{party_checks}

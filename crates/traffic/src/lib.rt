@@ -6,7 +6,6 @@ ghost use Rattle.arguments.specs.Check as Check;
 ghost use Rattle.clearing.specs.Clearing as Clearing;
 ghost use Rattle.traffic.specs.Traffic as Spec;
 
-use arguments::Verdict;
 use clearing::Scene;
 use elementary::error::Refusal;
 use motion::units::Distance;
@@ -34,12 +33,9 @@ pub struct Traffic {
 pub fn target_of(e: Entry) -> Target
     ensures { result ≡ Spec.target_of e }
 {
-    let contact = e.contact;
-    let party = e.target;
-    let vessel = party.motion;
     Target {
-        contact: contact,
-        vessel: vessel,
+        contact: e.contact,
+        vessel: e.target.motion,
     }
 }
 
@@ -89,31 +85,26 @@ pub fn scene_of(t: Traffic) -> Scene
     scene
 }
 
-// More than MAX_CONTACTS are refused.
-pub fn check_count(count: usize, rest: Verdict) -> Verdict
-    ensures { result ≡ Check.verdict (Spec.count_checks count) rest }
+// More than MAX_CONTACTS are refused (number 14).
+pub fn check_count(count: usize) -> Result<(), Refusal>
+    ensures { result ≡ Check.checked (Spec.count_checks count) }
 {
-    arguments::unless(count <= MAX_CONTACTS, Refusal::TooManyContacts, rest)
+    arguments::ensure(count <= MAX_CONTACTS, Refusal::TooManyContacts)
 }
 
-fn check_entry(e: Entry, rest: Verdict) -> Verdict
-    ensures { result ≡ Check.verdict (Spec.entry_checks e) rest }
+fn check_entry(e: Entry) -> Result<(), Refusal>
+    ensures { result ≡ Check.checked (Spec.entry_checks e) }
 {
-    let contact = e.contact;
-    let target = e.target;
-    arguments::check_contact(contact, check::check_party(target, rest))
+    arguments::check_contact(e.contact)?;
+    check::check_party(e.target)
 }
 
-// Entry by entry, the contact, then its vessel. The last is looked at first, so that the first bad one decides.
-pub fn check_contacts(t: Traffic, rest: Verdict) -> Verdict
-    ensures { result ≡ Check.verdict (Spec.contacts_checks (Spec.contacts t)) rest }
+// Entry by entry, the contact, then its vessel.
+pub fn check_contacts(t: Traffic) -> Result<(), Refusal>
+    ensures { result ≡ Check.checked (Spec.contacts_checks (Spec.contacts t)) }
 {
-    let mut verdict = rest;
-    let mut i = room::held(t.count);
-    while i > 0 {
-        i -= 1;
-        let e = t.list[i];
-        verdict = check_entry(e, verdict);
+    for e in &t.list[..room::held(t.count)] {
+        check_entry(*e)?;
     }
-    verdict
+    Ok(())
 }

@@ -1,13 +1,11 @@
 -- The fields of the line on a turn, after document 01, 'Encounter sheet and its program'.
-use Rattle.std.specs.Prelude.{List, ℕ}
+use Rattle.std.specs.Prelude.{List, ℕ, None, Some}
 use Rattle.text.specs.Text.{bytes}
 use Rattle.text.specs.Decimal.{decimal_of}
 use Rattle.number_fields.specs.Fields.{quantity_field}
 use Rattle.motion.specs.declared.units.Distance.{Distance}
 use Rattle.manoeuvre.specs.declared.Side.{Side}
-use Rattle.manoeuvre.specs.declared.Side.TheVariants as Side
-use Rattle.manoeuvre.specs.declared.Limiting.{Limiting}
-use Rattle.manoeuvre.specs.declared.Limiting.TheVariants as Limiting
+use Rattle.std.specs.declared.option.Option.{Option}
 
 -- 'side (S or P, the list that held the trial, also at 0)'
 abbrev pub side_field : Side → List ℕ
@@ -15,11 +13,11 @@ side_field Side.Starboard = bytes "S"
 side_field Side.Port = bytes "P"
 
 -- 'passing distance (FREE without contacts)'
-abbrev pub passing_field : Limiting → Distance → List ℕ
-passing_field Limiting.Nobody passing = bytes "FREE"
-passing_field (Limiting.Contact place) passing = quantity_field passing.0
+abbrev pub passing_field : Option ℕ → Distance → List ℕ
+passing_field None passing = bytes "FREE"
+passing_field (Some place) passing = quantity_field passing.0
 
 -- 'limiting id (NONE)'
-abbrev pub limiting_field : Limiting → ℕ → List ℕ
-limiting_field Limiting.Nobody id = bytes "NONE"
-limiting_field (Limiting.Contact place) id = decimal_of id
+abbrev pub limiting_field : Option ℕ → ℕ → List ℕ
+limiting_field None id = bytes "NONE"
+limiting_field (Some place) id = decimal_of id

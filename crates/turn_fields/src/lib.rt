@@ -6,7 +6,7 @@ ghost use Rattle.text.specs.Text.{shown, appended};
 ghost use Rattle.text.specs.Line.{spaced, line};
 ghost use Rattle.turn_fields.specs.Fields as Spec;
 
-use manoeuvre::{Limiting, Side};
+use manoeuvre::Side;
 use motion::units::Distance;
 use text::Text;
 
@@ -21,12 +21,12 @@ pub fn side_field(t: Text, side: Side) -> Text
 }
 
 // The least passing distance and the id of the contact whose it is, to the line's end.
-pub fn passing_fields(t: Text, limiting: Limiting, passing: Distance, id: u32) -> Text
+pub fn passing_fields(t: Text, limiting: Option<usize>, passing: Distance, id: u32) -> Text
     ensures { shown result ≡ appended (shown t) (line (Spec.passing_field limiting passing ∷ Spec.limiting_field limiting id ∷ [])) }
 {
     match limiting {
-        Limiting::Nobody => t.put(b"FREE NONE\n"),
-        Limiting::Contact(place) => {
+        None => t.put(b"FREE NONE\n"),
+        Some(place) => {
             let t = number_fields::quantity(t, passing.0);
             t.number(id as u64).byte(b'\n')
         }

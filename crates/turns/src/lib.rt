@@ -8,7 +8,8 @@ ghost use Rattle.std.specs.Float.Ieee.{sub, rem, lt, le};
 ghost use Rattle.laws.specs.Units.{units_of};
 ghost use Rattle.turns.specs.Turns.{zero, full_turn, Left, Rest};
 
-const FULL_TURN: f64 = 360.0;
+// A full turn, in degrees.
+pub const FULL_TURN: f64 = 360.0;
 
 // Two full turns, and the most of which the number is a power of two: 2^1015.
 const TWO_TURNS: f64 = 720.0;
@@ -19,10 +20,7 @@ const MOST_TURNS: f64 = 1.2640029854500659e308;
 fn less(rest: f64, turn: f64) -> f64
     ensures { result ≡ cond (le turn rest) (sub binary64 rest turn) rest }
 {
-    if turn <= rest {
-        return rest - turn;
-    }
-    rest
+    if turn <= rest { rest - turn } else { rest }
 }
 
 // The remainder by a full turn, of a number below two times `turn`, which is 2^(left - 1) full turns: they are taken away where there are so
@@ -33,11 +31,9 @@ fn reduced(a: f64, turn: f64, left: u64) -> f64
 {
     let mut rest = a;
     let mut part = turn;
-    let mut k = left;
-    while k > 0 {
+    for _ in 0..left {
         rest = less(rest, part);
         part = part * 0.5;
-        k -= 1;
     }
     rest
 }

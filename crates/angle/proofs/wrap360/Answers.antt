@@ -7,6 +7,6 @@ pub returns-then-turned : goal.returns-then-turned
 returns-then-turned c =
     full c.args.degrees c.not_below_zero-turned.result (c.not_below_zero-turned.ensures ∙ ap turned c.remainder-rest.ensures) c.if-turned.true
 
-pub returns : goal.returns
-returns c =
+pub returns-else-turned : goal.returns-else-turned
+returns-else-turned c =
     not_full c.args.degrees c.not_below_zero-turned.result (c.not_below_zero-turned.ensures ∙ ap turned c.remainder-rest.ensures) c.if-turned.false

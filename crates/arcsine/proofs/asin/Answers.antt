@@ -1,6 +1,8 @@
 use Rattle.arcsine.proofs.Arcsines.{asks_units, answer_tiny, answer_negative, answer_inside, answer_above}
+use Rattle.laws.proofs.Bools.{holds}
 use Rattle.laws.proofs.Exact.{zero_by_zero}
-use Rattle.std.proofs.Common.{T, sym, ◌∙◌, subst}
+use Rattle.std.proofs.Common.{refl, ◌∙◌, le_of_lt}
+use lib.Ieee.{of_bits}
 use Rattle.arcsine.proofs.asin.Goals as goal
 
 pub returns-then-x-2 : goal.returns-then-x-2
@@ -10,10 +12,11 @@ pub returns-then-x : goal.returns-then-x
 returns-then-x c = zero_by_zero ∙ answer_negative c.args.x c.if-x-2.false
 
 pub units-requires : goal.units-requires
-units-requires c = asks_units c.args.x (subst T (sym c.well_formed.0.1) tt) c.if-x.false c.if-x-3.true
+units-requires c = asks_units c.args.x (holds c.well_formed.0.1) c.if-x.false c.if-x-3.true
 
 pub returns-then-x-3 : goal.returns-then-x-3
-returns-then-x-3 c = answer_inside c.args.x c.from_grid.result c.units.result c.arcsine.result c.if-x.false c.if-x-3.true c.units.ensures c.arcsine.ensures.0 c.from_grid.ensures
+unfolding of_bits
+returns-then-x-3 c = answer_inside c.args.x _ c.units.result _ c.if-x.false c.if-x-3.true c.units.ensures c.arcsine.ensures.0 (c.multiple.ensures 51 (le_of_lt c.arcsine.ensures.1) refl)
 
 pub returns : goal.returns
 returns c = zero_by_zero ∙ answer_above c.args.x c.if-x-3.false

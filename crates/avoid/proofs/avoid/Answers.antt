@@ -1,7 +1,8 @@
-use mathlib.Core.Path.{◌≡◌, sym, subst}
+use mathlib.Core.Path.{◌≡◌, refl, sym, subst, ◌∙◌}
 use mathlib.Core.Bool.{Bool, true}
 use lib.Dec.{T}
-use Rattle.avoid.proofs.Seeds.{HeldEncounter, accepted, refused, checked}
+use Rattle.arguments.proofs.Checks.{handed_on}
+use Rattle.avoid.proofs.Seeds.{HeldEncounter, accepted, refused}
 use Rattle.avoid.proofs.avoid.Goals as goal
 
 is_held : {b : Bool} → b ≡ true → T b
@@ -16,10 +17,10 @@ held c = record {
   most = is_held c.well_formed.1.1.1.1.0.1.1.1.1.0.1.1.0.1;
 }
 
-pub returns-in-Accepted : goal.returns-in-Accepted
-returns-in-Accepted c = accepted _ _ _ _ _ (held c) _ (checked _ _ _ _ _ _ _ _ c.check_constraints-last.ensures c.check_distance.ensures c.check_encounter-verdict.ensures) c.in-Accepted.is _ c.avoided.ensures
+pub returns : goal.returns
+returns c = accepted _ _ _ _ _ (held c) _ c.in_ok-check_arguments.ensures refl _ c.avoided.ensures
 
-held_2 : (c : goal.In-Refused) → HeldEncounter c.args.own c.args.contact c.args.target c.args.constraints
+held_2 : (c : goal.After-from_residual) → HeldEncounter c.args.own c.args.contact c.args.target c.args.constraints
 held_2 c = record {
   vessel = record { course = is_held c.well_formed.0.1.1.0.1.1.0.1; speed = is_held c.well_formed.0.1.1.1.0.1.1.0.1 };
   seen = record { bearing = is_held c.well_formed.1.0.1.1.0.1.1.0.1; range = is_held c.well_formed.1.0.1.1.1.0.1.1.0.1 };
@@ -28,5 +29,5 @@ held_2 c = record {
   most = is_held c.well_formed.1.1.1.1.0.1.1.1.1.0.1.1.0.1;
 }
 
-pub returns-in-Refused : goal.returns-in-Refused
-returns-in-Refused c = refused _ _ _ _ _ (held_2 c) _ (checked _ _ _ _ _ _ _ _ c.check_constraints-last.ensures c.check_distance.ensures c.check_encounter-verdict.ensures) _ c.in-Refused.is
+pub returns-in_err-check_arguments : goal.returns-in_err-check_arguments
+returns-in_err-check_arguments c = handed_on _ _ c.from_residual.ensures.1 ∙ refused _ _ _ _ _ (held_2 c) _ c.in_err-check_arguments.ensures _ refl

@@ -8,8 +8,8 @@ pub returns-then-known-eq0 : goal.returns-then-known-eq0
 unfolding constraints_of
 returns-then-known-eq0 c = rw (c.new-made.ensures, c.permitted_sides.ensures, eq-eqb _ _ c.if-known-eq0.true) refl
 
-pub returns-in-Of : goal.returns-in-Of
-returns-in-Of c = by_rate _ _ _ _ _ _ _ _ _ c.permitted_sides.ensures c.new-made.ensures (ne_eqb _ _ c.if-known-eq0.false) c.in-Of.is c.with_rate_of_turn.ensures
+pub returns-in-Ok : goal.returns-in-Ok
+returns-in-Ok c = by_rate _ _ _ _ _ _ _ _ _ c.permitted_sides.ensures c.new-made.ensures (ne_eqb _ _ c.if-known-eq0.false) c.in-Ok.is c.with_rate_of_turn.ensures
 
-pub returns-in-Refused : goal.returns-in-Refused
-returns-in-Refused c = not_made _ _ _ _ _ _ _ _ c.permitted_sides.ensures c.new-made.ensures (ne_eqb _ _ c.if-known-eq0.false) c.in-Refused.is
+pub returns-in-Err : goal.returns-in-Err
+returns-in-Err c = not_made _ _ _ _ _ _ _ _ c.permitted_sides.ensures c.new-made.ensures (ne_eqb _ _ c.if-known-eq0.false) c.in-Err.is

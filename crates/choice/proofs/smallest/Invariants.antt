@@ -1,4 +1,4 @@
-use Prim.Native.Nat.{◌-◌, ◌≤◌}
+use Prim.Native.Nat.{◌≤◌}
 use mathlib.Core.Path.{◌≡◌}
 use Rattle.clearing.specs.Clearing.{movings}
 use Rattle.trials.specs.Trials.{trials}
@@ -8,6 +8,3 @@ use Rattle.choice.proofs.smallest.Given as goal
 
 abbrev pub invariant-loop-k : goal.invariant-loop-k
 invariant-loop-k l = (l.k ≤ l.count) × (left l.sides (clears_on l.own l.floor (movings l.scene)) (trials l.least l.most) l.k ≡ left l.sides (clears_on l.own l.floor (movings l.scene)) (trials l.least l.most) 0)
-
-abbrev pub decreases-loop-k : goal.decreases-loop-k
-decreases-loop-k l = l.count - l.k

@@ -1,15 +1,13 @@
-use Rattle.std.proofs.Common.{T, sym, subst, arith}
-use Rattle.circular.proofs.Steps.{asks_units, small-rest, cos_inside, cos_outside}
+use Rattle.std.proofs.Common.{arith}
+use Rattle.laws.proofs.Bools.{holds}
+use Rattle.circular.proofs.Steps.{small-rest, cos_inside, cos_outside}
 use Rattle.circular.proofs.cos.Goals as goal
 
-pub units-requires : goal.units-requires
-units-requires c = asks_units c.args.x c.abs-a.result (subst T (sym c.well_formed.0.1) tt) c.abs-a.ensures c.if-a.true
-
 pub turned-requires : goal.turned-requires
-turned-requires c = (c.units.ensures.1, omega arith, small-rest c.args.x c.abs-a.result (subst T (sym c.well_formed.0.1) tt) c.abs-a.ensures c.if-a.true c.units.result c.units.ensures.0)
+turned-requires c = let u = c.in-Some.ensures in (u.2, omega arith, small-rest c.args.x (holds c.well_formed.0.1) u.0 c.in-Some.n u.1)
 
-pub returns-then-a : goal.returns-then-a
-returns-then-a c = cos_inside c.args.x c.abs-a.result (subst T (sym c.well_formed.0.1) tt) c.abs-a.ensures c.units.result c.turned.result c.units.ensures.0 c.if-a.true c.turned.ensures
+pub returns-in-Some : goal.returns-in-Some
+returns-in-Some c = let u = c.in-Some.ensures in cos_inside c.args.x (holds c.well_formed.0.1) u.0 c.in-Some.n u.1 _ c.turned.ensures
 
 pub returns : goal.returns
-returns c = cos_outside c.args.x c.abs-a.result (subst T (sym c.well_formed.0.1) tt) c.abs-a.ensures c.if-a.false
+returns c = cos_outside c.args.x c.in_default.ensures

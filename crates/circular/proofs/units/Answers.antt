@@ -1,14 +1,17 @@
-use Rattle.std.proofs.Common.{T, sym, subst}
+use Rattle.laws.proofs.Bools.{holds}
 use lib.Ieee.{of_bits}
-use Rattle.circular.proofs.Steps.{units_asks, units_is}
+use Rattle.circular.proofs.Steps.{inside_is, castable, units_are}
 use Rattle.circular.proofs.units.Goals as goal
 
 pub truncating_f64_to_u64-requires : goal.truncating_f64_to_u64-requires
 unfolding of_bits
 truncating_f64_to_u64-requires c =
-    let held = units_asks c.args.a (subst T (sym c.well_formed.0.1) tt) c.requires.0 c.requires.1 in
+    let held = castable c.args.x c.abs-a.result (holds c.abs-a.type_inv) c.abs-a.ensures c.if-a.true in
     record { lower_bound = held.0; upper_bound = held.1 }
 
-pub returns : goal.returns
+pub returns-then-a : goal.returns-then-a
 unfolding of_bits
-returns c = units_is c.args.a (subst T (sym c.well_formed.0.1) tt) c.requires.0 c.requires.1 c.truncating_f64_to_u64.result c.truncating_f64_to_u64.ensures
+returns-then-a c = units_are c.args.x c.abs-a.result (holds c.abs-a.type_inv) c.abs-a.ensures c.if-a.true _ c.truncating_f64_to_u64.ensures
+
+pub returns : goal.returns
+returns c = inside_is c.args.x c.abs-a.result (holds c.abs-a.type_inv) c.abs-a.ensures c.if-a.false

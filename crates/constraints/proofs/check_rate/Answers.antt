@@ -1,8 +1,10 @@
-use Rattle.constraints.proofs.Constrained.{no_rate, some_rate}
+use Rattle.std.specs.Prelude.{refl}
+use Rattle.arguments.specs.Check.{verdict}
 use Rattle.constraints.proofs.check_rate.Goals as goal
 
-pub returns-in-Nothing : goal.returns-in-Nothing
-returns-in-Nothing c = no_rate _ _ c.in-Nothing.is
+pub returns-in-None : goal.returns-in-None
+unfolding verdict
+returns-in-None c = rw c.in-None.is refl
 
-pub returns-in-Of : goal.returns-in-Of
-returns-in-Of c = some_rate _ _ _ _ _ c.in-Of.is c.ensure_range.ensures c.unless.ensures
+pub returns-in-Some : goal.returns-in-Some
+returns-in-Some c = rw c.in-Some.is (rw c.ensure_range.ensures at c.ensure.ensures)

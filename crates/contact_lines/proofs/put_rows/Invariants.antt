@@ -3,9 +3,7 @@ use mathlib.Core.Path.{◌≡◌}
 use lib.Seq.{slice}
 use Rattle.laws.specs.Fold.{fold}
 use Rattle.text.specs.Text.{shown}
-use Rattle.sheet_record.specs.Record.{rows}
 use Rattle.text.proofs.Pieces.{with_piece}
-use Rattle.text.proofs.Pieces as Pieces
 use Rattle.contact_lines.specs.Contacts.{line_on}
 use Rattle.contact_lines.proofs.put_rows.Given as goal
 

@@ -7,9 +7,6 @@ pub fraction-requires : goal.fraction-requires
 unfolding of_bits
 fraction-requires c = (c.if-x.true, c.if-x-2.true)
 
-pub returns-then-x-2 : goal.returns-then-x-2
-returns-then-x-2 c = c.fraction.ensures
-
 pub returns-then-x : goal.returns-then-x
 unfolding thousandths_of
 returns-then-x c = rw (c.if-x.true, c.if-x-2.false) refl

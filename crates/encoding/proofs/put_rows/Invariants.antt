@@ -4,8 +4,6 @@ use lib.Seq.{slice}
 use Rattle.laws.specs.Fold.{fold}
 use Rattle.text.specs.Text.{shown}
 use Rattle.text.proofs.Pieces.{with_piece}
-use Rattle.text.proofs.Pieces as Pieces
-use Rattle.sheet_record.specs.Record.{rows}
 use Rattle.encoding.proofs.Rows.{row_bytes}
 use Rattle.encoding.proofs.put_rows.Given as goal
 

@@ -7,13 +7,13 @@ use Rattle.text.proofs.Pieces.{fits}
 use Rattle.encoding.specs.Encode.{bytes_of}
 use Rattle.encoding.proofs.put_wind.Goals as goal
 
-full : (c : goal.In-Unknown) → length c.args.t.bytes ≡ room
+full : (c : goal.In-None) → length c.args.t.bytes ≡ room
 full c = c.well_formed.0.1.1.0.1.0.1
 
-pub returns-in-Unknown : goal.returns-in-Unknown
+pub returns-in-None : goal.returns-in-None
 unfolding bytes_of flat_map
-returns-in-Unknown c = rw c.in-Unknown.is (sym (nothing_appended _ (fits c.args.t.len c.args.t.bytes (full c))))
+returns-in-None c = rw c.in-None.is (sym (nothing_appended _ (fits c.args.t.len c.args.t.bytes (full c))))
 
-pub returns-in-From : goal.returns-in-From
+pub returns-in-Some : goal.returns-in-Some
 unfolding bytes_of flat_map
-returns-in-From c = rw (c.put_word.ensures, c.in-From.is) refl
+returns-in-Some c = rw (c.put_word.ensures, c.in-Some.is) refl

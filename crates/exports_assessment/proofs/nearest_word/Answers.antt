@@ -2,8 +2,8 @@ use mathlib.Core.Path.{sym, ap, ◌∙◌}
 use Rattle.exports_assessment.specs.Words.{nearest_word}
 use Rattle.exports_assessment.proofs.nearest_word.Goals as goal
 
-pub returns-in-Nothing : goal.returns-in-Nothing
-returns-in-Nothing c = ap (λ p. nearest_word p c.args.part) (sym c.in-Nothing.is)
+pub returns-in-None : goal.returns-in-None
+returns-in-None c = ap (λ p. nearest_word p c.args.part) (sym c.in-None.is)
 
-pub returns-in-Of : goal.returns-in-Of
-returns-in-Of c = c.cpa_word.ensures ∙ ap (λ p. nearest_word p c.args.part) (sym c.in-Of.is)
+pub returns-in-Some : goal.returns-in-Some
+returns-in-Some c = c.cpa_word.ensures ∙ ap (λ p. nearest_word p c.args.part) (sym c.in-Some.is)

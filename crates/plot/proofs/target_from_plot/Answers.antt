@@ -1,8 +1,10 @@
+use mathlib.Core.Path.{◌∙◌}
+use Rattle.arguments.proofs.Checks.{handed_on}
 use Rattle.plot.proofs.Plotted.{plotted, plot_refused}
 use Rattle.plot.proofs.target_from_plot.Goals as goal
 
-pub returns-in-Accepted : goal.returns-in-Accepted
-returns-in-Accepted c = plotted c.args.own c.args.first c.args.second c.args.elapsed _ c.check_plots-verdict.ensures _ _ c.in-Accepted.is c.hours.ensures c.solved.ensures
+pub returns-in_err-check_plots : goal.returns-in_err-check_plots
+returns-in_err-check_plots c = handed_on _ _ c.from_residual.ensures.1 ∙ plot_refused _ _ _ _ _ c.in_err-check_plots.ensures
 
-pub returns-in-Refused : goal.returns-in-Refused
-returns-in-Refused c = plot_refused c.args.own c.args.first c.args.second c.args.elapsed _ c.check_plots-verdict.ensures _ c.in-Refused.is
+pub returns : goal.returns
+returns c = plotted c.args.own c.args.first c.args.second c.args.elapsed _ _ c.in_ok-check_plots.ensures c.hours.ensures c.solved.ensures

@@ -18,18 +18,18 @@ within : (c : goal.After-put_answer) → length (rows c.args.rows) ≤ max_conta
 unfolding rows
 within c = omega (arith, length-take c.args.rows.count c.args.rows.list, listed c)
 
-pub returns-in-Of-constraints_on : goal.returns-in-Of-constraints_on
+pub returns-in-Ok-constraints_on : goal.returns-in-Ok-constraints_on
 unfolding lines_on
-returns-in-Of-constraints_on c =
-    rw (← c.policy_on.ensures, ← c.constraints_on.ensures, c.in-Of.is, c.in-Of-constraints_on.is, ← c.own_of-own.ensures, ← c.visibility_of-visibility.ensures, ← c.wind_from-wind.ensures, ← c.answer_on.ensures)
+returns-in-Ok-constraints_on c =
+    rw (← c.policy_on.ensures, ← c.constraints_on.ensures, c.in-Ok.is, c.in-Ok-constraints_on.is, ← c.own_of-own.ensures, ← c.visibility_of-visibility.ensures, ← c.wind_from-wind.ensures, ← c.answer_on.ensures)
     (both _ _ _ _ _ c.answer_on.result _ _ (within c) (rw c.blank.ensures at c.put_rows-t.ensures) c.put_answer.ensures)
 
-pub returns-in-Refused-constraints_on : goal.returns-in-Refused-constraints_on
+pub returns-in-Err-constraints_on : goal.returns-in-Err-constraints_on
 unfolding lines_on
-returns-in-Refused-constraints_on c =
-    rw (← c.policy_on.ensures, ← c.constraints_on.ensures, c.in-Of.is, c.in-Refused-constraints_on.is) (alone _ _ _ c.blank-in-Refused-constraints_on.ensures c.refused_line.ensures)
+returns-in-Err-constraints_on c =
+    rw (← c.policy_on.ensures, ← c.constraints_on.ensures, c.in-Ok.is, c.in-Err-constraints_on.is) (alone _ _ _ c.blank-in-Err-constraints_on.ensures c.refused_line.ensures)
 
-pub returns-in-Refused : goal.returns-in-Refused
+pub returns-in-Err : goal.returns-in-Err
 unfolding lines_on
-returns-in-Refused c =
-    rw (← c.policy_on.ensures, c.in-Refused.is) (alone _ _ _ c.blank-in-Refused.ensures c.refused_line-in-Refused.ensures)
+returns-in-Err c =
+    rw (← c.policy_on.ensures, c.in-Err.is) (alone _ _ _ c.blank-in-Err.ensures c.refused_line-in-Err.ensures)

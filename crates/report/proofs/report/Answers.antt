@@ -7,12 +7,12 @@ use Rattle.report.proofs.report.Goals as goal
 pub lines_on-requires : goal.lines_on-requires
 lines_on-requires c = c.rows_of-rows.ensures.counted ∙ ap length (sym c.rows_of-rows.ensures.listed)
 
-pub returns-in-Accepted : goal.returns-in-Accepted
+pub returns-in-Ok : goal.returns-in-Ok
 unfolding report
-returns-in-Accepted c =
-    rw (← c.check_sheet-verdict.ensures, c.in-Accepted.is, c.lines_on.ensures, c.header_of-h.ensures, c.rows_of-rows.ensures.listed) refl
+returns-in-Ok c =
+    rw (← c.check_sheet-verdict.ensures, c.in-Ok.is, c.lines_on.ensures, c.header_of-h.ensures, c.rows_of-rows.ensures.listed) refl
 
-pub returns-in-Refused : goal.returns-in-Refused
+pub returns-in-Err : goal.returns-in-Err
 unfolding report
-returns-in-Refused c =
-    rw (← c.check_sheet-verdict.ensures, c.in-Refused.is) (alone _ _ _ c.blank.ensures c.refused_line.ensures)
+returns-in-Err c =
+    rw (← c.check_sheet-verdict.ensures, c.in-Err.is) (alone _ _ _ c.blank.ensures c.refused_line.ensures)

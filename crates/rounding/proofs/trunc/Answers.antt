@@ -1,4 +1,4 @@
-use Rattle.std.proofs.Common.{T, sym, subst}
+use Rattle.laws.proofs.Bools.{holds}
 use lib.Ieee.{of_bits}
 use Rattle.rounding.proofs.Whole.{trunc_asks, trunc_holds, trunc_is, trunc_stays}
 use Rattle.rounding.proofs.trunc.Goals as goal
@@ -19,4 +19,4 @@ returns-then-a c = trunc_is c.args.x c.abs-a.result c.abs-a.ensures c.if-a.true 
 
 pub returns : goal.returns
 unfolding of_bits
-returns c = trunc_stays c.args.x c.abs-a.result (subst T (sym c.well_formed.0.1) tt) c.abs-a.ensures c.if-a.false
+returns c = trunc_stays c.args.x c.abs-a.result (holds c.well_formed.0.1) c.abs-a.ensures c.if-a.false

@@ -1,5 +1,7 @@
+use mathlib.Core.Path.{refl}
 use Rattle.traffic.specs.Traffic.{contacts}
 use Rattle.ruled_laws.specs.Held.{HeldArguments}
+use Rattle.arguments.proofs.Checks.{handed_on}
 use Rattle.ruled.proofs.Held.{is_held, entries-held}
 use Rattle.ruled.proofs.Steps.{accepted, refused}
 use Rattle.ruled.proofs.ruled_search.Goals as goal
@@ -13,10 +15,10 @@ held c = record {
   most = is_held c.well_formed.1.1.1.1.1.0.1.1.1.1.0.1.1.0.1;
 }
 
-pub returns-in-Accepted : goal.returns-in-Accepted
-returns-in-Accepted c = accepted _ _ _ _ _ _ _ (held c) _ c.check_arguments-verdict.ensures c.in-Accepted.is _ c.search.ensures
+pub returns : goal.returns
+returns c = accepted _ _ _ _ _ _ _ (held c) _ c.in_ok-check_arguments.ensures refl _ c.search.ensures
 
-held_2 : (c : goal.In-Refused) → HeldArguments c.args.own (contacts c.args.t) c.args.constraints
+held_2 : (c : goal.After-from_residual) → HeldArguments c.args.own (contacts c.args.t) c.args.constraints
 unfolding contacts
 held_2 c = record {
   vessel = record { course = is_held c.well_formed.0.1.1.0.1.1.0.1.1.0.1; speed = is_held c.well_formed.0.1.1.0.1.1.1.0.1.1.0.1 };
@@ -25,5 +27,5 @@ held_2 c = record {
   most = is_held c.well_formed.1.1.1.1.1.0.1.1.1.1.0.1.1.0.1;
 }
 
-pub returns-in-Refused : goal.returns-in-Refused
-returns-in-Refused c = refused _ _ _ _ _ _ _ (held_2 c) _ c.check_arguments-verdict.ensures _ c.in-Refused.is
+pub returns-in_err-check_arguments : goal.returns-in_err-check_arguments
+returns-in_err-check_arguments c = rw (handed_on _ _ c.from_residual.ensures.1) (refused _ _ _ _ _ _ _ (held_2 c) _ c.in_err-check_arguments.ensures _ refl)

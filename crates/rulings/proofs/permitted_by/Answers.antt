@@ -1,8 +1,8 @@
 use Rattle.rulings.proofs.Sides.{by_ruling, no_ruling}
 use Rattle.rulings.proofs.permitted_by.Goals as goal
 
-pub returns-in-Of : goal.returns-in-Of
-returns-in-Of c = by_ruling _ _ c.in-Of.is
+pub returns-in-Ok : goal.returns-in-Ok
+returns-in-Ok c = by_ruling _ _ c.in-Ok.is
 
-pub returns-in-Refused : goal.returns-in-Refused
-returns-in-Refused c = no_ruling _ _ c.in-Refused.is
+pub returns-in-Err : goal.returns-in-Err
+returns-in-Err c = no_ruling _ _ c.in-Err.is

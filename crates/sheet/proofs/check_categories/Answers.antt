@@ -1,28 +1,23 @@
-use Prim.Native.Nat.{◌-◌}
+use Rattle.std.specs.Prelude.{refl, take}
+use mathlib.Core.Path.{ap, ◌∙◌}
 use native.Mathlib.Omega.{arith}
-use Rattle.room.proofs.Counts.{fits}
+use Rattle.room.proofs.Counts.{take-room}
+use Rattle.arguments.specs.Check.{checked}
+use Rattle.arguments.proofs.Checks.{handed_on}
 use Rattle.sheet_record.specs.Record.{rows}
-use Rattle.sheet.proofs.Steps.{begins, one_more, all_checked}
+use Rattle.sheet.specs.Sheet.{category_checks}
+use Rattle.sheet.proofs.Steps.{row_passed, row_refused, all_passed}
 use Rattle.sheet.proofs.check_categories.Goals as goal
 
-pub loop-i-init : goal.loop-i-init
-loop-i-init c = (omega arith, begins c.args.rows.list c.held-i.result _)
+pub loop-row-init : goal.loop-row-init
+unfolding rows
+loop-row-init c = (take-room _ _ _ _ c.held.ensures c.well_formed.0.1.1.1.0.1.0.1, refl)
 
-pub overflow_sub-i : goal.overflow_sub-i
-overflow_sub-i c = omega (arith, c.loop-i-test.true)
+pub loop-row-preserved : goal.loop-row-preserved
+loop-row-preserved c = (c.loop-row.invariant.0, row_passed (take c.held.result c.args.rows.list) c.loop-row.row-index _ c.loop-row-test.true c.in_ok-ensure.ensures ∙ c.loop-row.invariant.1)
 
-pub offset_bounds-rows-i : goal.offset_bounds-rows-i
-offset_bounds-rows-i c = omega (arith, c.loop-i-test.true, c.loop-i.invariant.0, c.held-i.ensures)
-
-pub bounds-rows-i : goal.bounds-rows-i
-bounds-rows-i c = omega (arith, c.loop-i-test.true, c.loop-i.invariant.0, c.held-i.ensures)
-
-pub loop-i-smaller : goal.loop-i-smaller
-loop-i-smaller c = omega (arith, c.loop-i-test.true)
-
-pub loop-i-preserved : goal.loop-i-preserved
-loop-i-preserved c = (omega (arith, c.loop-i.invariant.0), one_more c.args.rows.list c.held-i.result c.args.rest c.loop-i.i _ _ _ c.loop-i-test.true c.loop-i.invariant.0 (fits _ _ _ _ c.held-i.ensures c.well_formed.0.1.1.1.0.1.0.1) c.loop-i.invariant.1 c.unless-verdict.ensures)
+pub returns-in_err-ensure : goal.returns-in_err-ensure
+returns-in_err-ensure c = handed_on _ _ c.from_residual.ensures.1 ∙ row_refused (take c.held.result c.args.rows.list) c.loop-row.row-index _ _ c.loop-row-test.true c.in_err-ensure.ensures ∙ c.loop-row.invariant.1 ∙ ap (λ l. checked (category_checks l)) c.loop-row.invariant.0
 
 pub returns : goal.returns
-unfolding rows
-returns c = all_checked c.args.rows.list c.held-i.result c.args.rest c.loop-i.i _ _ _ (omega (arith, c.loop-i-test.false)) c.held-i.ensures c.well_formed.0.1.1.1.0.1.0.1 c.loop-i.invariant.1
+returns c = all_passed (take c.held.result c.args.rows.list) c.loop-row.row-index (omega (arith, c.loop-row-test.false, c.loop-row.auto.row-index-end)) ∙ c.loop-row.invariant.1 ∙ ap (λ l. checked (category_checks l)) c.loop-row.invariant.0

@@ -1,11 +1,7 @@
-use Prim.Native.Nat.{◌-◌, ◌≤◌}
-use mathlib.Core.Path.{◌≡◌}
+use Rattle.std.specs.Prelude.{◌≡◌}
 use Rattle.sheet_record.specs.Record.{rows}
-use Rattle.sheet.proofs.Steps.{from}
+use Rattle.sheet.proofs.Steps.{left}
 use Rattle.sheet.proofs.check_categories.Given as goal
 
-abbrev pub invariant-loop-i : goal.invariant-loop-i
-invariant-loop-i l = (l.i ≤ l.initial.i) × (l.verdict ≡ from l.rows.list l.initial.i l.initial.verdict l.i)
-
-abbrev pub decreases-loop-i : goal.decreases-loop-i
-decreases-loop-i l = l.i
+abbrev pub invariant-loop-row : goal.invariant-loop-row
+invariant-loop-row l = (l.row-items ≡ rows l.fn.rows) × (left l.row-items l.row-index ≡ left l.row-items 0)

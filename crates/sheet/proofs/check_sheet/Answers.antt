@@ -1,8 +1,22 @@
-use Rattle.sheet.proofs.Steps.{refused, read}
+use Rattle.std.specs.Prelude.{map}
+use mathlib.Core.Path.{◌∙◌}
+use Rattle.arguments.proofs.Checks.{handed_on, refused, accepted}
+use Rattle.sheet_record.specs.Record.{rows}
+use Rattle.sheet_values.specs.Values.{entry_of}
+use Rattle.sheet.specs.Sheet.{code_checks, value_checks}
+use Rattle.sheet.proofs.Steps.{unreadable, readable_as}
 use Rattle.sheet.proofs.check_sheet.Goals as goal
 
-pub returns-in-Yes : goal.returns-in-Yes
-returns-in-Yes c = read _ _ c.check_layout-readable.ensures c.in-Yes.is _ _ _ _ _ c.header_of-h.ensures c.rows_of-rows.ensures.listed c.traffic_of-t.ensures.listed c.check_values.ensures c.check_codes.ensures
+pub returns-in_err-check_layout : goal.returns-in_err-check_layout
+returns-in_err-check_layout c = handed_on _ _ c.from_residual.ensures.1 ∙ unreadable _ _ c.in_err-check_layout.ensures
 
-pub returns-in-Refused : goal.returns-in-Refused
-returns-in-Refused c = refused _ _ c.check_layout-readable.ensures _ c.in-Refused.is
+pub returns-in_err-check_codes : goal.returns-in_err-check_codes
+returns-in_err-check_codes c =
+    handed_on _ _ c.from_residual-in_err-check_codes.ensures.1
+    ∙ readable_as _ c.header_of-h.result (rows c.rows_of-rows.result) _ c.in_ok-check_layout.ensures c.header_of-h.ensures c.rows_of-rows.ensures.listed
+    (refused (code_checks c.header_of-h.result (rows c.rows_of-rows.result)) (value_checks c.header_of-h.result (map entry_of (rows c.rows_of-rows.result))) _ _ c.in_err-check_codes.ensures)
+
+pub returns : goal.returns
+returns c =
+    readable_as _ c.header_of-h.result (rows c.rows_of-rows.result) _ c.in_ok-check_layout.ensures c.header_of-h.ensures c.rows_of-rows.ensures.listed
+    (accepted (code_checks c.header_of-h.result (rows c.rows_of-rows.result)) (value_checks c.header_of-h.result (map entry_of (rows c.rows_of-rows.result))) _ _ c.in_ok-check_codes.ensures (rw c.traffic_of.ensures.listed at c.check_values.ensures))

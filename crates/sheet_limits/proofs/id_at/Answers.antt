@@ -14,13 +14,13 @@ bounds-rows-place c = omega (arith, c.if-place-held.true, c.held.ensures)
 pub returns-then-place-held : goal.returns-then-place-held
 unfolding rows
 returns-then-place-held c =
-    rw c.in-Contact.is (inside _ _ _ _ c.held.ensures c.well_formed.0.1.1.1.0.1.0.1 _ c.if-place-held.true)
+    rw c.in-Some.is (inside _ _ _ _ c.held.ensures c.well_formed.0.1.1.1.0.1.0.1 _ c.if-place-held.true)
 
-pub returns-in-Nobody : goal.returns-in-Nobody
+pub returns-in-None : goal.returns-in-None
 unfolding id_at
-returns-in-Nobody c = rw c.in-Nobody.is refl
+returns-in-None c = rw c.in-None.is refl
 
 pub returns-else-place-held : goal.returns-else-place-held
 unfolding rows
 returns-else-place-held c =
-    rw c.in-Contact.is (beyond _ _ _ _ c.held.ensures c.well_formed.0.1.1.1.0.1.0.1 c.if-place-held.false)
+    rw c.in-Some.is (beyond _ _ _ _ c.held.ensures c.well_formed.0.1.1.1.0.1.0.1 c.if-place-held.false)

@@ -1,6 +1,5 @@
 use Prim.Native.Nat.{◌-◌, ◌≤◌}
 use Rattle.sheet_words.specs.Word.{words}
-use Rattle.sheet_record.specs.Record.{rows}
 use Rattle.sheet_record.proofs.Filling.{Filled}
 use Rattle.sheet_record.proofs.rows_of.Given as goal
 

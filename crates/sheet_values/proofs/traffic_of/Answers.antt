@@ -1,4 +1,4 @@
-use Rattle.std.proofs.Common.{◌-◌, refl, arith}
+use Rattle.std.proofs.Common.{refl, arith}
 use Rattle.traffic.specs.Traffic.{contacts}
 use Rattle.sheet_record.specs.Record.{rows}
 use Rattle.sheet_values.proofs.Filling.{none, more, filled}

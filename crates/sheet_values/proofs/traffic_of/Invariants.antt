@@ -1,5 +1,4 @@
 use Rattle.std.proofs.Common.{◌-◌, ◌≤◌}
-use Rattle.sheet_record.specs.Record.{rows}
 use Rattle.sheet_values.proofs.Filling.{Filled}
 use Rattle.sheet_values.proofs.traffic_of.Given as goal
 

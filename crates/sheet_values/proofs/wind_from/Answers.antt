@@ -2,10 +2,10 @@ use Rattle.std.proofs.Common.{refl}
 use Rattle.sheet_values.specs.Values.{wind_from}
 use Rattle.sheet_values.proofs.wind_from.Goals as goal
 
-pub returns-in-Unknown : goal.returns-in-Unknown
+pub returns-in-None : goal.returns-in-None
 unfolding wind_from
-returns-in-Unknown c = rw c.in-Unknown.is refl
+returns-in-None c = rw c.in-None.is refl
 
-pub returns-in-From : goal.returns-in-From
+pub returns-in-Some : goal.returns-in-Some
 unfolding wind_from
-returns-in-From c = rw (c.scaled.ensures, c.in-From.is) refl
+returns-in-Some c = rw (c.scaled.ensures, c.in-Some.is) refl

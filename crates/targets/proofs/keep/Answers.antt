@@ -2,10 +2,10 @@ use mathlib.Core.Path.{refl}
 use Rattle.targets.proofs.keep.Goals as goal
 
 pub returns-then-outranks : goal.returns-then-outranks
-returns-then-outranks c = rw (c.in-Of.is, ← c.outranks.ensures, c.if-outranks.true) refl
+returns-then-outranks c = rw (c.in-Some.is, ← c.outranks.ensures, c.if-outranks.true) refl
 
-pub returns-in-Nothing : goal.returns-in-Nothing
-returns-in-Nothing c = rw c.in-Nothing.is refl
+pub returns-in-None : goal.returns-in-None
+returns-in-None c = rw c.in-None.is refl
 
 pub returns-else-outranks : goal.returns-else-outranks
-returns-else-outranks c = rw (c.in-Of.is, ← c.outranks.ensures, c.if-outranks.false) refl
+returns-else-outranks c = rw (c.in-Some.is, ← c.outranks.ensures, c.if-outranks.false) refl

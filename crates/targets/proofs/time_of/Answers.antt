@@ -1,5 +1,5 @@
 use mathlib.Core.Path.{refl}
 use Rattle.targets.proofs.time_of.Goals as goal
 
-pub returns-in-Nothing : goal.returns-in-Nothing
-returns-in-Nothing c = rw c.in-Nothing.is refl
+pub returns-in-None : goal.returns-in-None
+returns-in-None c = rw c.in-None.is refl

@@ -1,28 +1,22 @@
-use Rattle.traffic.specs.Traffic.{contacts}
-use Rattle.traffic.proofs.Loops.{begins, one_more, all_checked}
-use Prim.Native.Nat.{◌-◌}
+use Rattle.std.specs.Prelude.{refl, take}
+use mathlib.Core.Path.{ap, ◌∙◌}
 use native.Mathlib.Omega.{arith}
-use Rattle.room.proofs.Counts.{fits}
+use Rattle.room.proofs.Counts.{take-room}
+use Rattle.arguments.specs.Check.{checked}
+use Rattle.arguments.proofs.Checks.{handed_on}
+use Rattle.traffic.specs.Traffic.{contacts, contacts_checks}
+use Rattle.traffic.proofs.Loops.{entry_passed, entry_refused, all_passed}
 use Rattle.traffic.proofs.check_contacts.Goals as goal
 
-pub loop-i-init : goal.loop-i-init
-loop-i-init c = (omega arith, begins c.args.t.list c.held-i.result _)
+pub loop-e-init : goal.loop-e-init
+unfolding contacts
+loop-e-init c = (take-room _ _ _ _ c.held.ensures c.well_formed.0.1.1.1.0.1.0.1, refl)
 
-pub overflow_sub-i : goal.overflow_sub-i
-overflow_sub-i c = omega (arith, c.loop-i-test.true)
+pub loop-e-preserved : goal.loop-e-preserved
+loop-e-preserved c = (c.loop-e.invariant.0, entry_passed (take c.held.result c.args.t.list) c.loop-e.e-index _ c.loop-e-test.true c.in_ok-check_entry.ensures ∙ c.loop-e.invariant.1)
 
-pub offset_bounds-t-i : goal.offset_bounds-t-i
-offset_bounds-t-i c = omega (arith, c.loop-i-test.true, c.loop-i.invariant.0, c.held-i.ensures)
-
-pub bounds-t-i : goal.bounds-t-i
-bounds-t-i c = omega (arith, c.loop-i-test.true, c.loop-i.invariant.0, c.held-i.ensures)
-
-pub loop-i-smaller : goal.loop-i-smaller
-loop-i-smaller c = omega (arith, c.loop-i-test.true)
-
-pub loop-i-preserved : goal.loop-i-preserved
-loop-i-preserved c = (omega (arith, c.loop-i.invariant.0), one_more c.args.t.list c.held-i.result c.args.rest c.loop-i.i _ _ _ c.loop-i-test.true c.loop-i.invariant.0 (fits _ _ _ _ c.held-i.ensures c.well_formed.0.1.1.1.0.1.0.1) c.loop-i.invariant.1 c.check_entry-verdict.ensures)
+pub returns-in_err-check_entry : goal.returns-in_err-check_entry
+returns-in_err-check_entry c = handed_on _ _ c.from_residual.ensures.1 ∙ entry_refused (take c.held.result c.args.t.list) c.loop-e.e-index _ _ c.loop-e-test.true c.in_err-check_entry.ensures ∙ c.loop-e.invariant.1 ∙ ap (λ l. checked (contacts_checks l)) c.loop-e.invariant.0
 
 pub returns : goal.returns
-unfolding contacts
-returns c = all_checked c.args.t.list c.held-i.result c.args.rest c.loop-i.i _ _ _ (omega (arith, c.loop-i-test.false)) c.held-i.ensures c.well_formed.0.1.1.1.0.1.0.1 c.loop-i.invariant.1
+returns c = all_passed (take c.held.result c.args.t.list) c.loop-e.e-index (omega (arith, c.loop-e-test.false, c.loop-e.auto.e-index-end)) ∙ c.loop-e.invariant.1 ∙ ap (λ l. checked (contacts_checks l)) c.loop-e.invariant.0

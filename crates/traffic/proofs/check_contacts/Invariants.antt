@@ -1,10 +1,7 @@
-use Rattle.traffic.proofs.Loops.{from}
-use Prim.Native.Nat.{◌-◌, ◌≤◌}
-use mathlib.Core.Path.{◌≡◌}
+use Rattle.std.specs.Prelude.{◌≡◌}
+use Rattle.traffic.specs.Traffic.{contacts}
+use Rattle.traffic.proofs.Loops.{left}
 use Rattle.traffic.proofs.check_contacts.Given as goal
 
-abbrev pub invariant-loop-i : goal.invariant-loop-i
-invariant-loop-i l = (l.i ≤ l.initial.i) × (l.verdict ≡ from l.t.list l.initial.i l.initial.verdict l.i)
-
-abbrev pub decreases-loop-i : goal.decreases-loop-i
-decreases-loop-i l = l.i
+abbrev pub invariant-loop-e : goal.invariant-loop-e
+invariant-loop-e l = (l.e-items ≡ contacts l.fn.t) × (left l.e-items l.e-index ≡ left l.e-items 0)

@@ -1,10 +1,12 @@
-use mathlib.Core.Path.{◌∙◌, ap, sym}
-use Rattle.arguments.specs.Check.{verdict, contact_checks}
-use Rattle.arguments.proofs.Checks.{verdict_joined}
-use Rattle.situation.specs.Arguments.{party_checks}
+use Rattle.arguments.specs.Check.{contact_checks}
 use Rattle.traffic.specs.Traffic.{entry_checks}
+use Rattle.arguments.proofs.Checks.{refused_by, accepted}
 use Rattle.traffic.proofs.check_entry.Goals as goal
+
+pub returns-in_err-check_contact : goal.returns-in_err-check_contact
+unfolding entry_checks
+returns-in_err-check_contact c = refused_by (contact_checks c.args.e.contact) _ _ _ _ c.from_residual.ensures.1 c.in_err-check_contact.ensures
 
 pub returns : goal.returns
 unfolding entry_checks
-returns c = c.check_contact.ensures ∙ ap (verdict (contact_checks c.args.e.contact)) c.check_party.ensures ∙ sym (verdict_joined (contact_checks c.args.e.contact) (party_checks c.args.e.target) _)
+returns c = accepted (contact_checks c.args.e.contact) _ _ _ c.in_ok-check_contact.ensures c.check_party.ensures

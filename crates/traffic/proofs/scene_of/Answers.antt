@@ -1,7 +1,6 @@
 use Rattle.clearing.specs.Clearing.{movings, moving}
 use Rattle.traffic.specs.Traffic.{contacts, targets}
 use Rattle.traffic.proofs.Loops.{more, filled}
-use Prim.Native.Nat.{◌-◌}
 use mathlib.Core.Path.{refl, ◌∙◌, ap}
 use native.Mathlib.Omega.{arith}
 use Rattle.traffic.proofs.scene_of.Goals as goal

@@ -8,9 +8,3 @@ remainder_of_positive-requires c = turned_round c.args.x c.if-x.true
 
 pub returns-then-x : goal.returns-then-x
 returns-then-x c = ap neg c.remainder_of_positive.ensures ∙ opposite c.args.x
-
-pub remainder_of_positive-requires-2 : goal.remainder_of_positive-requires-2
-remainder_of_positive-requires-2 c = c.if-x.false
-
-pub returns : goal.returns
-returns c = c.remainder_of_positive-2.ensures

@@ -1,8 +1,15 @@
+use mathlib.Core.Path.{◌∙◌}
+use Rattle.arguments.specs.Check.{encounter_checks}
+use Rattle.policy.specs.Policy.{policy_checks}
+use Rattle.arguments.proofs.Checks.{handed_on, refused as refused_first, accepted}
 use Rattle.assessment.proofs.Assessed.{answered, refused}
 use Rattle.assessment.proofs.assess.assess.Goals as goal
 
-pub returns-in-Accepted : goal.returns-in-Accepted
-returns-in-Accepted c = answered _ _ _ _ _ _ c.check_policy-last.ensures c.check_encounter-verdict.ensures _ c.in-Accepted.is c.assessed.ensures
+pub returns-in_err-check_encounter : goal.returns-in_err-check_encounter
+returns-in_err-check_encounter c = handed_on _ _ c.from_residual.ensures.1 ∙ refused _ _ _ _ _ (refused_first (encounter_checks c.args.own c.args.contact c.args.target) (policy_checks c.args.policy) _ _ c.in_err-check_encounter.ensures)
 
-pub returns-in-Refused : goal.returns-in-Refused
-returns-in-Refused c = refused _ _ _ _ _ _ c.check_policy-last.ensures c.check_encounter-verdict.ensures _ c.in-Refused.is
+pub returns-in_err-check_policy : goal.returns-in_err-check_policy
+returns-in_err-check_policy c = handed_on _ _ c.from_residual-in_err-check_policy.ensures.1 ∙ refused _ _ _ _ _ (accepted (encounter_checks c.args.own c.args.contact c.args.target) (policy_checks c.args.policy) _ _ c.in_ok-check_encounter.ensures c.in_err-check_policy.ensures)
+
+pub returns : goal.returns
+returns c = answered _ _ _ _ _ (accepted (encounter_checks c.args.own c.args.contact c.args.target) (policy_checks c.args.policy) _ _ c.in_ok-check_encounter.ensures c.in_ok-check_policy.ensures) c.assessed.ensures

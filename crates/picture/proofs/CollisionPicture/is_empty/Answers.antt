@@ -1,4 +1,3 @@
-use Prim.Native.Nat.{◌-◌}
 use mathlib.Core.Path.{◌≡◌, ap}
 use lib.ListN.{length}
 use Rattle.room.specs.Room.{max_contacts}

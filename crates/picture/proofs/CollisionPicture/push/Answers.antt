@@ -1,8 +1,6 @@
-use Prim.Native.Nat.{◌-◌}
 use Rattle.picture.specs.Picture.{targets}
 use Rattle.picture.proofs.Loops.{one_more, no_room}
 use Rattle.picture.proofs.CollisionPicture.push.Goals as goal
-use Rattle.picture.proofs.CollisionPicture.push.Lts as at
 
 pub bounds-out-at : goal.bounds-out-at
 bounds-out-at c = c.if-at-lt-MAX_CONTACTS.true

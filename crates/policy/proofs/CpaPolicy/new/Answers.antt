@@ -1,8 +1,12 @@
-use Rattle.policy.proofs.Made.{made, not_made}
+use mathlib.Core.Path.{refl, sym, ◌∙◌}
+use Rattle.arguments.proofs.Checks.{handed_on}
+use Rattle.policy.specs.Policy.{policy_answer}
 use Rattle.policy.proofs.CpaPolicy.new.Goals as goal
 
-pub returns-in-Accepted : goal.returns-in-Accepted
-returns-in-Accepted c = made _ _ _ c.check_policy-verdict.ensures c.in-Accepted.is
+pub returns-in_err-check_policy : goal.returns-in_err-check_policy
+unfolding policy_answer
+returns-in_err-check_policy c = handed_on _ _ c.from_residual.ensures.1 ∙ rw (sym c.in_err-check_policy.ensures) refl
 
-pub returns-in-Refused : goal.returns-in-Refused
-returns-in-Refused c = not_made _ _ _ c.check_policy-verdict.ensures _ c.in-Refused.is
+pub returns : goal.returns
+unfolding policy_answer
+returns c = rw (sym c.in_ok-check_policy.ensures) refl

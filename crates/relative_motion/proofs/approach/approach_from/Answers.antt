@@ -8,4 +8,4 @@ pub returns-then-time : goal.returns-then-time
 returns-then-time c = opening c.args.range c.args.offset c.args.relative _ c.hypot-relative_speed.ensures c.if-relative_speed.false c.if-time.true
 
 pub returns : goal.returns
-returns c = closing c.args.range c.args.offset c.args.relative _ c.hypot-relative_speed.ensures c.if-relative_speed.false c.if-time.false _ _ _ c.hypot.ensures c.time_to_go-to_go.ensures c.direction_of-bearing.ensures
+returns c = closing c.args.range c.args.offset c.args.relative _ c.hypot-relative_speed.ensures c.if-relative_speed.false c.if-time.false _ _ _ c.hypot.ensures c.time_to_go.ensures c.direction_of.ensures

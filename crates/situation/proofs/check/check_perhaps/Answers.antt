@@ -1,8 +1,10 @@
-use Rattle.situation.proofs.Checked.{unknown, known}
+use Rattle.std.specs.Prelude.{refl}
+use Rattle.arguments.specs.Check.{verdict}
 use Rattle.situation.proofs.check.check_perhaps.Goals as goal
 
-pub returns-in-Unknown : goal.returns-in-Unknown
-returns-in-Unknown c = unknown _ _ c.in-Unknown.is
+pub returns-in-None : goal.returns-in-None
+unfolding verdict
+returns-in-None c = rw c.in-None.is refl
 
-pub returns-in-Known : goal.returns-in-Known
-returns-in-Known c = known _ _ _ _ _ c.in-Known.is c.is_direction.ensures c.unless.ensures
+pub returns-in-Some : goal.returns-in-Some
+returns-in-Some c = rw c.in-Some.is (rw c.is_direction.ensures at c.ensure.ensures)

@@ -1,11 +1,13 @@
-use Rattle.situation.specs.Situation.{heading, or_else}
-use mathlib.Core.Path.{ap, sym}
+use Rattle.std.specs.Prelude.{◌≡◌, refl, Option, Some, None, unwrap_or}
+use mathlib.Core.Path.{◌∙◌}
+use Rattle.motion.specs.declared.units.Direction.{Direction}
+use Rattle.situation.specs.Situation.{or_else, heading}
 use Rattle.situation.proofs.party.Party.heading.Goals as goal
 
-pub returns-in-Unknown : goal.returns-in-Unknown
-unfolding heading
-returns-in-Unknown c = ap (λ k. or_else k c.args.self.motion.course) (sym c.in-Unknown.is)
+known_or : (p : Option Direction) (d : Direction) → unwrap_or p d ≡ or_else p d
+known_or None d = refl
+known_or (Some known) d = refl
 
-pub returns-in-Known : goal.returns-in-Known
+pub returns : goal.returns
 unfolding heading
-returns-in-Known c = ap (λ k. or_else k c.args.self.motion.course) (sym c.in-Known.is)
+returns c = c.unwrap_or.ensures ∙ known_or c.args.self.heading c.args.self.motion.course

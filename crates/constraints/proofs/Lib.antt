@@ -1,2 +1,0 @@
--- What the code of constraints owes.
-pub mod Constrained

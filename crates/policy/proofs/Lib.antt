@@ -1,2 +1,0 @@
--- What the code of the limits owes.
-pub mod Made

@@ -1,2 +1,0 @@
--- What the code of the checks owes.
-pub mod Checked
