@@ -12,16 +12,15 @@ use room::MAX_CONTACTS;
 use traffic::{Entry, Traffic};
 
 // 0 either side, 1 starboard, 2 port.
+#[tactic(auto, unfolding(crate::specs::Codes::permitted_sides))]
 pub fn permitted_sides(code: u32) -> PermittedSides
     ensures { result ≡ Spec.permitted_sides code }
 {
-    if code == 0 {
-        return PermittedSides::Either;
+    match code {
+        0 => PermittedSides::Either,
+        1 => PermittedSides::Starboard,
+        _ => PermittedSides::Port,
     }
-    if code == 1 {
-        return PermittedSides::Starboard;
-    }
-    PermittedSides::Port
 }
 
 // Constraints, with a rate of turn where `known` is not 0; the first refusal that making them meets.
@@ -83,11 +82,9 @@ pub fn traffic_of(wide: bool, count: usize, floats: &[f64]) -> Traffic
         count: 0,
         list: [nobody; MAX_CONTACTS],
     };
-    let mut i: usize = 0;
-    while i < n {
+    for i in 0..n {
         let e = entry_at(floats, place_of(wide, i));
         t.list[i] = e;
-        i += 1;
     }
     t.count = count;
     t

@@ -3,13 +3,12 @@ use Rattle.std.specs.Prelude.{None, Some}
 use mathlib.Core.Path.{◌≡◌, refl, sym, ap, ◌∙◌}
 use mathlib.Core.Bool.{true, false, true≢false}
 use mathlib.Core.List.{List, [], ◌∷◌, map}
-use Prim.Native.Nat.{ℕ, zero, suc, ◌+◌, ◌≤◌, ◌<◌, min}
+use Prim.Native.Nat.{ℕ, zero, suc, ◌+◌, ◌<◌}
 use native.Mathlib.Nat.{le_of_lt, lt_of_lt_of_le}
 use native.Mathlib.Numerals.{add-one}
 use native.Mathlib.Omega.{arith}
-use lib.ListN.{length, get_or, take}
-use lib.Seq.{slice, slice-cons, slice_empty}
-use Rattle.room.proofs.Counts.{take-held}
+use lib.ListN.{length, get_or, drop}
+use lib.Seq.{drop-cons, drop-length}
 use Rattle.std.specs.declared.option.Option.{Option}
 use Rattle.motion.specs.declared.units.Distance.{Distance}
 use Rattle.clearing.specs.declared.Tally.{Tally}
@@ -35,26 +34,26 @@ is_blocked_lem : (p : Option Distance) → is_blocked p ≡ true → p ≡ None
 is_blocked_lem None h = refl
 is_blocked_lem (Some d) h = absurd (true≢false (sym h))
 
-module _ {A : Type 0} (f : A → Option Distance) (l : List A) (n : ℕ) where
+module _ {A : Type 0} (f : A → Option Distance) (l : List A) where
   -- what is still to be joined, from i on
   abbrev pub left : ℕ → Tally → Tally
-  left i t = tally i t (map f (slice i n l))
+  left i t = tally i t (map f (drop i l))
 
-  pub step : (i : ℕ) (t next : Tally) (p : Option Distance) (d : A) → i < n → n ≤ length l → p ≡ f (get_or l i d) → next ≡ join t i p → left (i + 1) next ≡ left i t
+  pub step : (i : ℕ) (t next : Tally) (p : Option Distance) (d : A) → i < length l → p ≡ f (get_or l i d) → next ≡ join t i p → left (i + 1) next ≡ left i t
   unfolding tally
-  step i t next p d h k e q = rw (add-one, slice-cons i n l d h k) (ap (λ t. tally (suc i) t (map f (slice (suc i) n l))) (q ∙ ap (join t i) e))
+  step i t next p d h e q = rw (add-one, drop-cons l i d h) (ap (λ t. tally (suc i) t (map f (drop (suc i) l))) (q ∙ ap (join t i) e))
 
-  pub done : (i : ℕ) (t : Tally) → i ≡ n → left i t ≡ t
+  pub done : (i : ℕ) (t : Tally) → i ≡ length l → left i t ≡ t
   unfolding tally
-  done i t e = rw (e, slice_empty n l) refl
+  done i t e = rw (e, drop-length l) refl
 
   pub stopped : (i : ℕ) (t : Tally) → is_stopped t ≡ true → left i t ≡ Stopped
-  stopped i t h = ap (left i) (is_stopped_lem t h) ∙ stays_stopped i (map f (slice i n l))
+  stopped i t h = ap (left i) (is_stopped_lem t h) ∙ stays_stopped i (map f (drop i l))
 
   -- one that blocks, at i, stops a tally from any place j before
-  pub one_blocks : (i : ℕ) (d : A) (p : Option Distance) → i < n → n ≤ length l → p ≡ f (get_or l i d) → is_blocked p ≡ true → left 0 Free ≡ Stopped
+  pub one_blocks : (i : ℕ) (d : A) (p : Option Distance) → i < length l → p ≡ f (get_or l i d) → is_blocked p ≡ true → left 0 Free ≡ Stopped
   unfolding join
-  one_blocks i d p h k e b = from i 0 (none i) Free
+  one_blocks i d p h e b = from i 0 (none i) Free
     where
       none : (i : ℕ) → 0 + i ≡ i
       none i = omega arith
@@ -69,14 +68,12 @@ module _ {A : Type 0} (f : A → Option Distance) (l : List A) (n : ℕ) where
       next j r g = omega arith
 
       at : (t : Tally) → left i t ≡ Stopped
-      at t = sym (step i t Stopped p d h k e (ap (join t i) (sym (is_blocked_lem p b)))) ∙ stays_stopped (i + 1) (map f (slice (i + 1) n l))
+      at t = sym (step i t Stopped p d h e (ap (join t i) (sym (is_blocked_lem p b)))) ∙ stays_stopped (i + 1) (map f (drop (i + 1) l))
 
       from : (r j : ℕ) → j + r ≡ i → (t : Tally) → left j t ≡ Stopped
       from zero j g t = ap (λ j. left j t) (here j g) ∙ at t
-      from (suc r) j g t = sym (step j t (join t j (f (get_or l j d))) (f (get_or l j d)) d (lt_of_lt_of_le (below j r g) (le_of_lt h)) k refl refl) ∙ from r (j + 1) (next j r g) (join t j (f (get_or l j d)))
+      from (suc r) j g t = sym (step j t (join t j (f (get_or l j d))) (f (get_or l j d)) d (lt_of_lt_of_le (below j r g) (le_of_lt h)) refl refl) ∙ from r (j + 1) (next j r g) (join t j (f (get_or l j d)))
 
-  -- the contacts of a count beyond the room are those of the room
-  module _ (count room : ℕ) (is : n ≡ min count room) (full : length l ≡ room) where
-    pub whole : cleared (left 0 Free) ≡ clearing (map f (take count l))
-    unfolding clearing
-    whole = ap (λ k. cleared (tally 0 Free (map f (take k l)))) (is ∙ ap (min count) (sym full)) ∙ ap (λ xs. cleared (tally 0 Free (map f xs))) (take-held count l)
+  pub whole : cleared (left 0 Free) ≡ clearing (map f l)
+  unfolding clearing
+  whole = refl

@@ -92,8 +92,7 @@ fn cleared(tally: Tally) -> Option<Passing>
 // the relative velocity, over the relative speed. Nothing is promised of it.
 fn is_suspect(own: Components, m: Moving, square: f64) -> bool {
     let offset = m.offset;
-    let velocity = m.velocity;
-    let relative = vessel::difference(velocity, own);
+    let relative = vessel::difference(m.velocity, own);
     let rate = offset.north * relative.north + offset.east * relative.east;
     let cross = offset.north * relative.east - offset.east * relative.north;
     let speed = relative.north * relative.north + relative.east * relative.east;
@@ -113,17 +112,13 @@ fn is_blocked(p: Option<Distance>) -> bool
 fn suspect_blocks(own: Components, scene: Scene, floor: f64) -> bool
     ensures { result ≡ true → Spec.clears_at own floor (Spec.movings scene) ≡ None }
 {
-    let count = room::held(scene.count);
     let square = floor * floor * DOUBT;
-    let mut k: usize = 0;
-    while k < count {
-        let m = scene.list[k];
-        if is_suspect(own, m, square) {
-            if is_blocked(passage_of(own, m, floor)) {
+    for m in &scene.list[..room::held(scene.count)] {
+        if is_suspect(own, *m, square) {
+            if is_blocked(passage_of(own, *m, floor)) {
                 return true;
             }
         }
-        k += 1;
     }
     false
 }
@@ -132,16 +127,12 @@ fn suspect_blocks(own: Components, scene: Scene, floor: f64) -> bool
 fn tallied(own: Components, scene: Scene, floor: f64) -> Option<Passing>
     ensures { result ≡ Spec.clears_at own floor (Spec.movings scene) }
 {
-    let count = room::held(scene.count);
     let mut tally = Tally::Free;
-    let mut i: usize = 0;
-    while i < count {
-        let m = scene.list[i];
-        tally = joined(tally, i, passage_of(own, m, floor));
+    for (place, m) in scene.list[..room::held(scene.count)].iter().enumerate() {
+        tally = joined(tally, place, passage_of(own, *m, floor));
         if is_stopped(tally) {
             return None;
         }
-        i += 1;
     }
     cleared(tally)
 }

@@ -30,45 +30,35 @@ pub fn word_at(words: [u64; 9], part: u32) -> u64
 
 // 0 power-driven, 1 sailing on the port tack, 2 on the starboard tack, 3 on an unknown tack, 4 fishing, 5 constrained by her draught, 6
 // restricted in her ability to manoeuvre; any other code is not under command.
+#[tactic(auto, unfolding(crate::specs::Codes::category))]
 pub fn category(code: u32) -> VesselCategory
     ensures { result ≡ Spec.category code }
 {
-    if code == 0 {
-        return VesselCategory::PowerDriven;
-    }
-    if code == 1 {
-        return VesselCategory::Sailing { tack: Tack::Port };
-    }
-    if code == 2 {
-        return VesselCategory::Sailing {
+    match code {
+        0 => VesselCategory::PowerDriven,
+        1 => VesselCategory::Sailing { tack: Tack::Port },
+        2 => VesselCategory::Sailing {
             tack: Tack::Starboard,
-        };
-    }
-    if code == 3 {
-        return VesselCategory::Sailing {
+        },
+        3 => VesselCategory::Sailing {
             tack: Tack::Unknown,
-        };
+        },
+        4 => VesselCategory::Fishing,
+        5 => VesselCategory::ConstrainedByDraught,
+        6 => VesselCategory::RestrictedInAbilityToManoeuvre,
+        _ => VesselCategory::NotUnderCommand,
     }
-    if code == 4 {
-        return VesselCategory::Fishing;
-    }
-    if code == 5 {
-        return VesselCategory::ConstrainedByDraught;
-    }
-    if code == 6 {
-        return VesselCategory::RestrictedInAbilityToManoeuvre;
-    }
-    VesselCategory::NotUnderCommand
 }
 
 // 0 in sight; any other code is restricted.
+#[tactic(auto, unfolding(crate::specs::Codes::visibility))]
 pub fn visibility(code: u32) -> Visibility
     ensures { result ≡ Spec.visibility code }
 {
-    if code == 0 {
-        return Visibility::InSight;
+    match code {
+        0 => Visibility::InSight,
+        _ => Visibility::Restricted,
     }
-    Visibility::Restricted
 }
 
 // A direction, unknown where `known` is 0.

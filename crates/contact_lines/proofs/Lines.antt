@@ -2,9 +2,8 @@
 use Rattle.std.specs.Prelude.{Err, Ok}
 use mathlib.Core.Path.{◌≡◌, refl, sym, ap, ◌∙◌}
 use mathlib.Core.List.{List}
-use Prim.Native.Nat.{ℕ, ◌≤◌, min}
-use lib.ListN.{length, take}
-use lib.Seq.{slice}
+use Prim.Native.Nat.{ℕ, ◌≤◌}
+use lib.ListN.{length}
 use Rattle.laws.specs.Fold.{fold}
 use Rattle.text.specs.Text.{room, appended}
 use Rattle.text.proofs.Pieces.{with_piece, joined}
@@ -23,8 +22,6 @@ use Rattle.situation.specs.declared.party.Visibility.{Visibility}
 use Rattle.situation.specs.Situation.{standard}
 use Rattle.colregs.specs.declared.answer.Ruling.{Ruling}
 use Rattle.colregs.specs.Colregs.{ruling_answer}
-use Rattle.room.specs.Room.{max_contacts}
-use Rattle.room.proofs.Counts.{take-room}
 use Rattle.sheet_record.specs.declared.Row.{Row}
 use Rattle.traffic.specs.declared.Entry.{Entry}
 use Rattle.rulings.specs.Ruled.{situation_of}
@@ -56,8 +53,7 @@ of_row t u own visibility wind policy row e approach ruling ee ea eg eu =
 
 -- ---- all contacts
 
-pub all_joined : (own : Party) (visibility : Visibility) (wind : Option Direction) (policy : CpaPolicy) (u r : List ℕ) (list : List Row) (n count : ℕ) → length u ≤ room → n ≡ min count max_contacts → length list ≡ max_contacts
-    → r ≡ fold (with_piece (line_on own visibility wind policy)) u (slice 0 n list) → r ≡ appended u (contact_lines own visibility wind policy (take count list))
+pub all_joined : (own : Party) (visibility : Visibility) (wind : Option Direction) (policy : CpaPolicy) (u r : List ℕ) (list rs : List Row) → length u ≤ room → list ≡ rs
+    → r ≡ fold (with_piece (line_on own visibility wind policy)) u list → r ≡ appended u (contact_lines own visibility wind policy rs)
 unfolding contact_lines
-all_joined own visibility wind policy u r list n count h is full e =
-    e ∙ joined (line_on own visibility wind policy) u (take n list) h ∙ ap (λ l. appended u (contact_lines own visibility wind policy l)) (take-room n count max_contacts list is full)
+all_joined own visibility wind policy u r list rs h is e = e ∙ joined (line_on own visibility wind policy) u list h ∙ ap (λ l. appended u (contact_lines own visibility wind policy l)) is

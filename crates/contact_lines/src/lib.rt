@@ -79,13 +79,9 @@ pub fn put_rows(
 ) -> Text
     ensures { shown result ≡ appended (shown t0) (Spec.contact_lines own visibility wind policy (Record.rows rows)) }
 {
-    let count = room::held(rows.count);
     let mut t = t0;
-    let mut i: usize = 0;
-    while i < count {
-        let row = rows.list[i];
-        t = put_row(t, own, visibility, wind, policy, row);
-        i += 1;
+    for row in &rows.list[..room::held(rows.count)] {
+        t = put_row(t, own, visibility, wind, policy, *row);
     }
     t
 }

@@ -2,16 +2,14 @@
 use Rattle.std.specs.Prelude.{None, Some}
 use mathlib.Core.Path.{◌≡◌, refl, sym, ap, ◌∙◌}
 use mathlib.Core.List.{List, [], ◌∷◌, ◌++◌, flat_map}
-use Prim.Native.Nat.{ℕ, ◌+◌, ◌*◌, ◌≤◌, min}
+use Prim.Native.Nat.{ℕ, ◌+◌, ◌*◌, ◌≤◌}
 use native.Mathlib.Omega.{arith}
-use lib.ListN.{length, length-append, take}
-use lib.Seq.{slice}
+use lib.ListN.{length, length-append}
 use Rattle.laws.specs.Fold.{fold}
 use Rattle.text.specs.Text.{room, appended}
 use Rattle.text.proofs.Appending.{appended_twice, whole}
 use Rattle.text.proofs.Pieces.{with_piece, joined}
 use Rattle.room.specs.Room.{max_contacts}
-use Rattle.room.proofs.Counts.{take-room}
 use Rattle.std.specs.declared.option.Option.{Option}
 use Rattle.sheet_record.specs.declared.Header.{Header}
 use Rattle.sheet_record.specs.declared.Row.{Row}
@@ -31,10 +29,8 @@ unfolding flat_map rows_words bytes_of
 rows-bytes [] = refl
 rows-bytes (r ∷ rs) = ap (λ l. row_bytes r ++ l) (rows-bytes rs) ∙ sym (bytes-append (row_words r) (rows_words rs))
 
-pub all_joined : (u r : List ℕ) (list : List Row) (n count : ℕ) → length u ≤ room → n ≡ min count max_contacts → length list ≡ max_contacts
-    → r ≡ fold (with_piece row_bytes) u (slice 0 n list) → r ≡ appended u (bytes_of (rows_words (take count list)))
-all_joined u r list n count h is full e =
-    e ∙ joined row_bytes u (take n list) h ∙ ap (appended u) (rows-bytes (take n list)) ∙ ap (λ l. appended u (bytes_of (rows_words l))) (take-room n count max_contacts list is full)
+pub all_joined : (u r : List ℕ) (list rs : List Row) → length u ≤ room → list ≡ rs → r ≡ fold (with_piece row_bytes) u list → r ≡ appended u (bytes_of (rows_words rs))
+all_joined u r list rs h is e = e ∙ joined row_bytes u list h ∙ ap (appended u) (rows-bytes list) ∙ ap (λ l. appended u (bytes_of (rows_words l))) is
 
 -- ---- nothing is cut: four bytes a word, nine or ten words and six for each row
 pub bytes-length : (ws : List ℕ) → length (bytes_of ws) ≡ 4 * length ws

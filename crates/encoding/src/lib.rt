@@ -73,13 +73,9 @@ fn put_row(t: Text, row: Row) -> Text
 fn put_rows(t0: Text, rows: Rows) -> Text
     ensures { shown result ≡ appended (shown t0) (Spec.bytes_of (Spec.rows_words (Record.rows rows))) }
 {
-    let count = room::held(rows.count);
     let mut t = t0;
-    let mut i: usize = 0;
-    while i < count {
-        let row = rows.list[i];
-        t = put_row(t, row);
-        i += 1;
+    for row in &rows.list[..room::held(rows.count)] {
+        t = put_row(t, *row);
     }
     t
 }

@@ -11,45 +11,35 @@ ghost use Rattle.exports_assessment.specs.Words as Spec;
 
 use assessment::assess::CollisionAssessment;
 use elementary::error::Refusal;
-use motion::units::{Direction, Distance, Speed};
+use motion::units::Distance;
 use motion::vessel::{Contact, Vessel};
 use policy::CpaPolicy;
 use relative_motion::approach::Cpa;
 use time::Duration;
 use words::pattern;
 
+#[tactic(auto, unfolding(crate::specs::Words::motion_word))]
 fn motion_word(a: CollisionAssessment, part: u32) -> u64
     ensures { result ≡ Spec.motion_word a part }
 {
-    if part == 1 {
-        let course = a.relative_course();
-        return pattern(course.0);
+    match part {
+        1 => pattern(a.relative_course().0),
+        2 => pattern(a.relative_speed().0),
+        _ => pattern(a.bearing_drift().0),
     }
-    if part == 2 {
-        let speed = a.relative_speed();
-        return pattern(speed.0);
-    }
-    let drift = a.bearing_drift();
-    pattern(drift.0)
 }
 
+#[tactic(auto, unfolding(crate::specs::Words::cpa_word))]
 fn cpa_word(cpa: Cpa, part: u32) -> u64
     ensures { result ≡ Spec.cpa_word cpa part }
 {
-    let to_go = cpa.time_to_go;
-    if part == 4 {
-        return 1;
+    match part {
+        4 => 1,
+        5 => pattern(cpa.distance.0),
+        6 => pattern(cpa.bearing.0),
+        7 => cpa.time_to_go.secs,
+        _ => cpa.time_to_go.nanos as u64,
     }
-    if part == 5 {
-        return pattern(cpa.distance.0);
-    }
-    if part == 6 {
-        return pattern(cpa.bearing.0);
-    }
-    if part == 7 {
-        return to_go.secs;
-    }
-    to_go.nanos as u64
 }
 
 fn nearest_word(p: Option<Cpa>, part: u32) -> u64
@@ -61,13 +51,14 @@ fn nearest_word(p: Option<Cpa>, part: u32) -> u64
     }
 }
 
+#[tactic(auto, unfolding(crate::specs::Words::distance_word))]
 fn distance_word(d: Distance, part: u32) -> u64
     ensures { result ≡ Spec.distance_word d part }
 {
-    if part == 9 {
-        return 1;
+    match part {
+        9 => 1,
+        _ => pattern(d.0),
     }
-    pattern(d.0)
 }
 
 fn crossing_word(p: Option<Distance>, part: u32) -> u64
@@ -79,46 +70,38 @@ fn crossing_word(p: Option<Distance>, part: u32) -> u64
     }
 }
 
+#[tactic(auto, unfolding(crate::specs::Words::contact_word))]
 fn contact_word(a: CollisionAssessment, part: u32) -> u64
     ensures { result ≡ Spec.contact_word a part }
 {
-    if part == 11 {
-        let risk = a.risk();
-        return risk.rank() as u64;
+    match part {
+        11 => a.risk().rank() as u64,
+        12 => pattern(a.range().0),
+        _ => pattern(a.bearing().0),
     }
-    if part == 12 {
-        let range = a.range();
-        return pattern(range.0);
-    }
-    let bearing = a.bearing();
-    pattern(bearing.0)
 }
 
+#[tactic(auto, unfolding(crate::specs::Words::assessed_word))]
 fn assessed_word(a: CollisionAssessment, part: u32) -> u64
     ensures { result ≡ Spec.assessed_word a part }
 {
-    if part == 0 {
-        return 0;
+    match part {
+        0 => 0,
+        1..=3 => motion_word(a, part),
+        4..=8 => nearest_word(a.cpa(), part),
+        9..=10 => crossing_word(a.bow_crossing(), part),
+        _ => contact_word(a, part),
     }
-    if part < 4 {
-        return motion_word(a, part);
-    }
-    if part < 9 {
-        return nearest_word(a.cpa(), part);
-    }
-    if part < 11 {
-        return crossing_word(a.bow_crossing(), part);
-    }
-    contact_word(a, part)
 }
 
+#[tactic(auto, unfolding(crate::specs::Words::refused_word))]
 fn refused_word(why: Refusal, part: u32) -> u64
     ensures { result ≡ Spec.refused_word why part }
 {
-    if part == 0 {
-        return why.number() as u64;
+    match part {
+        0 => why.number() as u64,
+        _ => 0,
     }
-    0
 }
 
 fn answer_word(answer: Result<CollisionAssessment, Refusal>, part: u32) -> u64
@@ -176,23 +159,11 @@ pub extern "C" fn avoidance_assess(
 ) -> u64
     ensures { result ≡ Spec.word_by (Spec.vessel oc os) (Spec.contact bearing range) (Spec.vessel tc ts) (Policy.policy_answer (Spec.distance limit) (Spec.time secs nanos)) part }
 {
-    let own = Vessel {
-        course: Direction(oc),
-        speed: Speed(os),
-    };
-    let contact = Contact {
-        bearing: Direction(bearing),
-        range: Distance(range),
-    };
-    let target = Vessel {
-        course: Direction(tc),
-        speed: Speed(ts),
-    };
     let latest = Duration { secs, nanos };
     word_by(
-        own,
-        contact,
-        target,
+        words::vessel(oc, os),
+        words::contact(bearing, range),
+        words::vessel(tc, ts),
         CpaPolicy::new(Distance(limit), latest),
         part,
     )

@@ -50,16 +50,13 @@ fn ruled_words(answer: Result<RuledManoeuvre, Refusal>) -> [u64; 9]
 {
     match answer {
         Ok(m) => {
-            let side = m.side;
-            let time = m.turn_time;
-            let limiting = m.limiting;
             turned(
-                side_word(side),
+                side_word(m.side),
                 pattern(m.magnitude.0),
                 pattern(m.course.0),
                 pattern(m.passing.0),
-                time,
-                limiting_word(limiting),
+                m.turn_time,
+                limiting_word(m.limiting),
             )
         }
         Err(why) => refused(why),
@@ -73,15 +70,12 @@ fn search_words(choice: Option<Chosen>) -> [u64; 9]
     match choice {
         None => [0, 0, 0, 0, 0, 0, 0, 0, 0],
         Some(c) => {
-            let side = c.side;
-            let passing = c.passing;
-            let limiting = passing.limiting;
             [
                 1,
-                side_word(side),
+                side_word(c.side),
                 pattern(c.magnitude.0),
-                pattern(passing.distance.0),
-                limiting_word(limiting),
+                pattern(c.passing.distance.0),
+                limiting_word(c.passing.limiting),
                 0,
                 0,
                 0,

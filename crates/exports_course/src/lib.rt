@@ -61,14 +61,12 @@ fn course(a: Option<Direction>) -> u64
 fn altered(a: Avoidance) -> Words
     ensures { result ≡ Spec.altered a }
 {
-    let starboard = a.starboard;
-    let port = a.port;
     Words {
         number: 0,
-        first: presence(starboard),
-        second: course(starboard),
-        third: presence(port),
-        fourth: course(port),
+        first: presence(a.starboard),
+        second: course(a.starboard),
+        third: presence(a.port),
+        fourth: course(a.port),
         fifth: 0,
     }
 }

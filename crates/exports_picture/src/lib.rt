@@ -71,27 +71,22 @@ fn picture_of(
 {
     let n = room::held(count);
     let mut p = CollisionPicture::of(entry_of(0, first));
-    let mut i: usize = 1;
-    while i < n {
+    for i in 1..n {
         p = with_answer(p, i, assess_at(floats, policy, i));
-        i += 1;
     }
     p
 }
 
+#[tactic(auto, unfolding(crate::specs::Words::risk_of))]
 fn risk_of(code: u32) -> CollisionRisk
     ensures { result ≡ Spec.risk_of code }
 {
-    if code == 0 {
-        return CollisionRisk::Opening;
+    match code {
+        0 => CollisionRisk::Opening,
+        1 => CollisionRisk::Passing,
+        2 => CollisionRisk::Developing,
+        _ => CollisionRisk::Dangerous,
     }
-    if code == 1 {
-        return CollisionRisk::Passing;
-    }
-    if code == 2 {
-        return CollisionRisk::Developing;
-    }
-    CollisionRisk::Dangerous
 }
 
 // The range of a target, and 0 for nobody.
@@ -110,24 +105,17 @@ fn range_word(t: Option<TargetAssessment>) -> u64
 
 // Part 0 is the length, 1 the range of the most dangerous target, 2 to 6 that of the target numbered 0 to 4, 7 to 10 the length and 11 to 14
 // the range of the most dangerous of those of at least each risk.
+#[tactic(auto, unfolding(crate::specs::Words::word_of))]
 fn word_of(p: CollisionPicture, part: u32) -> u64
     ensures { result ≡ Spec.word_of (Picture.targets p) part }
 {
-    if part == 0 {
-        return p.len() as u64;
+    match part {
+        0 => p.len() as u64,
+        1 => range_word(p.most_dangerous()),
+        2..=6 => range_word(p.target(part - 2)),
+        7..=10 => p.at_least(risk_of(part - 7)).len() as u64,
+        _ => range_word(p.at_least(risk_of(part % 11)).most_dangerous()),
     }
-    if part == 1 {
-        return range_word(p.most_dangerous());
-    }
-    if part < 7 {
-        return range_word(p.target(part - 2));
-    }
-    if part < 11 {
-        let kept = p.at_least(risk_of(part - 7));
-        return kept.len() as u64;
-    }
-    let kept = p.at_least(risk_of(part % 11));
-    range_word(kept.most_dangerous())
 }
 
 fn word_by(

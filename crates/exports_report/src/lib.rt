@@ -10,11 +10,7 @@ fn copy(text: &[u8], out: &mut [u8])
     requires { length text.now ≤ length out.old }
     ensures { out.new ≡ text.now ++ drop (length text.now) out.old }
 {
-    let mut i: usize = 0;
-    while i < text.len() {
-        out[i] = text[i];
-        i += 1;
-    }
+    out[..text.len()].copy_from_slice(text);
 }
 
 // Writes what `encounter` prints for a sheet to the start of `out` and answers how many bytes that are, at least one. If `out` has no room for

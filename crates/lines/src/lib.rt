@@ -24,29 +24,21 @@ pub fn contact_line(
     ensures { shown result ≡ appended (shown t) (Spec.contact_line id approach risk ruling) }
 {
     let distance = fields::distance(approach);
-    let encounter = ruling.encounter;
-    let responsibility = ruling.responsibility;
-    let rule = ruling.rule;
     let t = fields::number(t.put(b"CONTACT "), id as u64);
     let t = fields::quantity(fields::approach(t, approach), distance.0);
     let t = fields::risk(fields::seconds(t, approach), risk);
-    let t = ruling_fields::encounter(t, encounter);
-    let t = ruling_fields::responsibility(t, responsibility);
-    t.number(rule.number() as u64).byte(b'\n')
+    let t = ruling_fields::encounter(t, ruling.encounter);
+    let t = ruling_fields::responsibility(t, ruling.responsibility);
+    t.number(ruling.rule.number() as u64).byte(b'\n')
 }
 
 // The line on the ruled search's answer. The id is that of the limiting contact, and is not read where there is none.
 pub fn alter_line(t: Text, m: RuledManoeuvre, id: u32) -> Text
     ensures { shown result ≡ appended (shown t) (Spec.alter_line m id) }
 {
-    let side = m.side;
-    let magnitude = m.magnitude;
-    let course = m.course;
-    let passing = m.passing;
-    let limiting = m.limiting;
-    let t = side_field(t.put(b"ALTER "), side);
-    let t = fields::quantity(fields::quantity(t, magnitude.0), course.0);
-    passing_fields(t, limiting, passing, id)
+    let t = side_field(t.put(b"ALTER "), m.side);
+    let t = fields::quantity(fields::quantity(t, m.magnitude.0), m.course.0);
+    passing_fields(t, m.limiting, m.passing, id)
 }
 
 // The line on a refusal, by its number.

@@ -8,9 +8,8 @@ use native.Mathlib.Numerals.{add-one}
 use native.Mathlib.Omega.{arith}
 use lib.Dec.{ltb, lt→ltb, ltb→lt}
 use lib.Ieee.Bits.{is_true}
-use lib.ListN.{length, get_or, set, take, length-append, length-take}
-use lib.Seq.{slice, slice-cons, slice_empty, take-suc-set}
-use Rattle.laws.specs.Fold.{fold}
+use lib.ListN.{length, get_or, set, take, drop, length-append, length-take}
+use lib.Seq.{take-suc-set, drop-cons, drop-length}
 use Rattle.laws.proofs.Bools.{refuted}
 use Rattle.room.specs.Room.{max_contacts}
 use Rattle.room.proofs.Counts.{take-held}
@@ -41,25 +40,21 @@ module _ (list : List TargetAssessment) (n count : ℕ) (is : n ≡ min count ma
       never : n < max_contacts → max_contacts ≤ n → ⊥
       never p q = omega arith
 
--- ---- a loop that folds
-pub folded : (f : Option TargetAssessment → TargetAssessment → Option TargetAssessment) (list : List TargetAssessment) (n count : ℕ) (r : Option TargetAssessment) → n ≡ min count max_contacts → length list ≡ max_contacts → r ≡ fold f None (take n list) → r ≡ fold f None (take count list)
-folded f list n count r is full e = e ∙ ap (fold f None) (same_targets list n count is full)
-
 -- ---- the loop that keeps those of at least a risk
-module _ (least : CollisionRisk) (list : List TargetAssessment) (n : ℕ) where
+module _ (least : CollisionRisk) (list : List TargetAssessment) where
   -- what is kept, and what is still to be looked at
   abbrev pub left : ℕ → List TargetAssessment → List TargetAssessment
-  left i kept = kept ++ at_least least (slice i n list)
+  left i kept = kept ++ at_least least (drop i list)
 
-  pub step : (i : ℕ) (d : TargetAssessment) (kept next : List TargetAssessment) → i < n → n ≤ length list → n ≤ max_contacts → length kept ≤ i → next ≡ pushed_if least kept (get_or list i d) → (length next ≤ i + 1) × (left (i + 1) next ≡ left i kept)
+  pub step : (i : ℕ) (d : TargetAssessment) (kept next : List TargetAssessment) → i < length list → length list ≤ max_contacts → length kept ≤ i → next ≡ pushed_if least kept (get_or list i d) → (length next ≤ i + 1) × (left (i + 1) next ≡ left i kept)
   unfolding at_least pushed
-  step i d kept next h k m few e = subst (λ l. (length l ≤ i + 1) × (left (i + 1) l ≡ left i kept)) (sym e) (go (is_at_least least x) refl)
+  step i d kept next h m few e = subst (λ l. (length l ≤ i + 1) × (left (i + 1) l ≡ left i kept)) (sym e) (go (is_at_least least x) refl)
     where
       x : TargetAssessment
       x = get_or list i d
 
       rest : List TargetAssessment
-      rest = at_least least (slice (suc i) n list)
+      rest = at_least least (drop (suc i) list)
 
       room : ltb (length kept) max_contacts ≡ true
       room = is_true (ltb (length kept) max_contacts) (lt→ltb (length kept) max_contacts below)
@@ -74,12 +69,12 @@ module _ (least : CollisionRisk) (list : List TargetAssessment) (n : ℕ) where
       shorter = omega arith
 
       here : left i kept ≡ kept ++ cond (is_at_least least x) (x ∷ rest) rest
-      here = ap (λ l. kept ++ at_least least l) (slice-cons i n list d h k)
+      here = ap (λ l. kept ++ at_least least l) (drop-cons list i d h)
 
       go : (b : Bool) → is_at_least least x ≡ b → (length (cond b (cond (ltb (length kept) max_contacts) (kept ++ (x ∷ [])) kept) kept) ≤ i + 1) × (left (i + 1) (cond b (cond (ltb (length kept) max_contacts) (kept ++ (x ∷ [])) kept) kept) ≡ left i kept)
-      go true q = rw room (longer, ap (λ j. (kept ++ (x ∷ [])) ++ at_least least (slice j n list)) (add-one i) ∙ append_assoc kept (x ∷ []) rest ∙ ap (λ b. kept ++ cond b (x ∷ rest) rest) (sym q) ∙ sym here)
-      go false q = (shorter, ap (λ j. kept ++ at_least least (slice j n list)) (add-one i) ∙ ap (λ b. kept ++ cond b (x ∷ rest) rest) (sym q) ∙ sym here)
+      go true q = rw room (longer, ap (λ j. (kept ++ (x ∷ [])) ++ at_least least (drop j list)) (add-one i) ∙ append_assoc kept (x ∷ []) rest ∙ ap (λ b. kept ++ cond b (x ∷ rest) rest) (sym q) ∙ sym here)
+      go false q = (shorter, ap (λ j. kept ++ at_least least (drop j list)) (add-one i) ∙ ap (λ b. kept ++ cond b (x ∷ rest) rest) (sym q) ∙ sym here)
 
-  pub done : (i count : ℕ) (kept : List TargetAssessment) → i ≡ n → n ≡ min count max_contacts → length list ≡ max_contacts → left i kept ≡ left 0 [] → kept ≡ at_least least (take count list)
+  pub done : (i : ℕ) (kept : List TargetAssessment) → i ≡ length list → left i kept ≡ left 0 [] → kept ≡ at_least least list
   unfolding at_least
-  done i count kept e is full q = sym (append-nil kept) ∙ ap (λ l. kept ++ at_least least l) (sym (ap (λ j. slice j n list) e ∙ slice_empty n list)) ∙ q ∙ ap (at_least least) (same_targets list n count is full)
+  done i kept e q = sym (append-nil kept) ∙ ap (λ l. kept ++ at_least least l) (sym (ap (λ j. drop j list) e ∙ drop-length list)) ∙ q

@@ -57,13 +57,9 @@ impl CollisionPicture {
     pub fn target(self, target: u32) -> Option<TargetAssessment>
         ensures { result ≡ Spec.found target (Spec.targets self) }
     {
-        let count = room::held(self.count);
         let mut found = None;
-        let mut i: usize = 0;
-        while i < count {
-            let e = self.list[i];
-            found = or_this(found, target, e);
-            i += 1;
+        for e in &self.list[..room::held(self.count)] {
+            found = or_this(found, target, *e);
         }
         found
     }
@@ -72,13 +68,9 @@ impl CollisionPicture {
     pub fn most_dangerous(self) -> Option<TargetAssessment>
         ensures { result ≡ Spec.most_dangerous (Spec.targets self) }
     {
-        let count = room::held(self.count);
         let mut best = None;
-        let mut i: usize = 0;
-        while i < count {
-            let e = self.list[i];
-            best = keep(best, e);
-            i += 1;
+        for e in &self.list[..room::held(self.count)] {
+            best = keep(best, *e);
         }
         best
     }
@@ -96,14 +88,10 @@ impl CollisionPicture {
     pub fn at_least(self, least: CollisionRisk) -> CollisionPicture
         ensures { Spec.targets result ≡ Spec.at_least least (Spec.targets self) }
     {
-        let count = room::held(self.count);
         let mut out = self;
         out.count = 0;
-        let mut i: usize = 0;
-        while i < count {
-            let e = self.list[i];
-            out = out.push_if(least, e);
-            i += 1;
+        for e in &self.list[..room::held(self.count)] {
+            out = out.push_if(least, *e);
         }
         out
     }

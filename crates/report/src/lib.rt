@@ -20,10 +20,7 @@ fn put_answer(t: Text, rows: Rows, answer: Result<RuledManoeuvre, Refusal>) -> T
     ensures { shown result ≡ appended (shown t) (Spec.answer_line (Record.rows rows) answer) }
 {
     match answer {
-        Ok(m) => {
-            let limiting = m.limiting;
-            lines::alter_line(t, m, id_at(rows, limiting))
-        }
+        Ok(m) => lines::alter_line(t, m, id_at(rows, m.limiting)),
         Err(why) => lines::refused_line(t, why),
     }
 }

@@ -22,31 +22,20 @@ pub struct Words {
 }
 
 // The word of a place, the last one for a place beyond it.
+#[tactic(auto, unfolding(crate::specs::Words::word))]
 pub fn word(w: Words, part: u32) -> u64
     ensures { result ≡ Spec.word w part }
 {
-    if part == 0 {
-        return w.number;
+    match part {
+        0 => w.number,
+        1 => w.encounter,
+        2 => w.responsibility,
+        3 => w.rule,
+        4 => w.starboard,
+        5 => w.port,
+        6 => w.slow,
+        _ => w.hold,
     }
-    if part == 1 {
-        return w.encounter;
-    }
-    if part == 2 {
-        return w.responsibility;
-    }
-    if part == 3 {
-        return w.rule;
-    }
-    if part == 4 {
-        return w.starboard;
-    }
-    if part == 5 {
-        return w.port;
-    }
-    if part == 6 {
-        return w.slow;
-    }
-    w.hold
 }
 
 fn encounter_code(e: Encounter) -> u64
@@ -86,15 +75,12 @@ fn flag(b: bool) -> u64
 fn ruled(r: Ruling) -> Words
     ensures { result ≡ Spec.ruled r }
 {
-    let encounter = r.encounter;
-    let responsibility = r.responsibility;
-    let rule = r.rule;
     let may = r.manoeuvre;
     Words {
         number: 0,
-        encounter: encounter_code(encounter),
-        responsibility: responsibility_code(responsibility),
-        rule: rule.number() as u64,
+        encounter: encounter_code(r.encounter),
+        responsibility: responsibility_code(r.responsibility),
+        rule: r.rule.number() as u64,
         starboard: flag(may.starboard),
         port: flag(may.port),
         slow: flag(may.slow_down),

@@ -48,38 +48,21 @@ fn held(n: usize) -> usize
 fn print_line<W: Write>(output: &mut W, line: &[u8]) -> io::Result<()> {
     let mut sheet = [0u8; ROOM];
     let n = held(line.len() / 2);
-    let mut i: usize = 0;
-    while i < n {
+    for i in 0..n {
         let high = line[2 * i];
         let low = line[2 * i + 1];
         sheet[i] = digit(high) * 16 + digit(low);
-        i += 1;
     }
     print_report(output, &sheet[..n])
 }
 
-// Where the line that begins at a place ends.
-fn line_end(input: &[u8], from: usize) -> usize
-    requires { from ≤ length input.now }
-    ensures { (from ≤ result) × (result ≤ length input.now) }
-{
-    let mut i = from;
-    while i < input.len() {
-        if input[i] == b'\n' {
-            return i;
-        }
-        i += 1;
-    }
-    i
-}
-
-// The sheets of the input, one after the other.
+// The sheets of the input, a line each, one after the other.
 fn replay<W: Write>(output: &mut W, input: &[u8]) -> io::Result<()> {
-    let mut from: usize = 0;
-    while from < input.len() {
-        let end = line_end(input, from);
-        print_line(output, &input[from..end])?;
-        from = end + 1;
+    let mut rest = input;
+    while !rest.is_empty() {
+        let end = rest.iter().position(|b| *b == b'\n').unwrap_or(rest.len());
+        print_line(output, &rest[..end])?;
+        rest = &rest[rest.len().min(end + 1)..];
     }
     Ok(())
 }

@@ -113,11 +113,9 @@ pub fn rows_of(bytes: &[u8]) -> Rows
         count: 0,
         list: [row_from(bytes, first); MAX_CONTACTS],
     };
-    let mut i: usize = 0;
-    while i < n {
+    for i in 0..n {
         let row = row_from(bytes, first + 6 * i);
         rows.list[i] = row;
-        i += 1;
     }
     rows.count = n;
     rows

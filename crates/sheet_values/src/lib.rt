@@ -22,45 +22,35 @@ pub fn scaled(n: u32) -> f64
 
 // 0 power-driven, 1 sailing on an unknown tack, 2 on the port tack, 3 on the starboard tack, 4 fishing, 5 constrained by her draught, 6
 // restricted in her ability to manoeuvre, 7 not under command; a larger code, which the checks refuse, counts as 7.
+#[tactic(auto, unfolding(crate::specs::Values::category_of))]
 pub fn category_of(code: u32) -> VesselCategory
     ensures { result ≡ Spec.category_of code }
 {
-    if code == 0 {
-        return VesselCategory::PowerDriven;
-    }
-    if code == 1 {
-        return VesselCategory::Sailing {
+    match code {
+        0 => VesselCategory::PowerDriven,
+        1 => VesselCategory::Sailing {
             tack: Tack::Unknown,
-        };
-    }
-    if code == 2 {
-        return VesselCategory::Sailing { tack: Tack::Port };
-    }
-    if code == 3 {
-        return VesselCategory::Sailing {
+        },
+        2 => VesselCategory::Sailing { tack: Tack::Port },
+        3 => VesselCategory::Sailing {
             tack: Tack::Starboard,
-        };
+        },
+        4 => VesselCategory::Fishing,
+        5 => VesselCategory::ConstrainedByDraught,
+        6 => VesselCategory::RestrictedInAbilityToManoeuvre,
+        _ => VesselCategory::NotUnderCommand,
     }
-    if code == 4 {
-        return VesselCategory::Fishing;
-    }
-    if code == 5 {
-        return VesselCategory::ConstrainedByDraught;
-    }
-    if code == 6 {
-        return VesselCategory::RestrictedInAbilityToManoeuvre;
-    }
-    VesselCategory::NotUnderCommand
 }
 
 // 0 in sight, 1 restricted.
+#[tactic(auto, unfolding(crate::specs::Values::visibility_of))]
 pub fn visibility_of(code: u32) -> Visibility
     ensures { result ≡ Spec.visibility_of code }
 {
-    if code == 0 {
-        return Visibility::InSight;
+    match code {
+        0 => Visibility::InSight,
+        _ => Visibility::Restricted,
     }
-    Visibility::Restricted
 }
 
 fn vessel_of(course: u32, speed: u32) -> Vessel
@@ -125,12 +115,10 @@ pub fn traffic_of(rows: Rows) -> Traffic
         count: 0,
         list: [entry_of(any); MAX_CONTACTS],
     };
-    let mut i: usize = 0;
-    while i < n {
+    for i in 0..n {
         let row = rows.list[i];
         let e = entry_of(row);
         t.list[i] = e;
-        i += 1;
     }
     t.count = rows.count;
     t

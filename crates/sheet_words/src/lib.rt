@@ -83,13 +83,11 @@ fn in_order(bytes: &[u8], first: u32, from: usize, to: usize) -> bool
     ensures { result ≡ Spec.in_order first (slice from to (Spec.words bytes.now)) }
 {
     let mut kind = first;
-    let mut i = from;
-    while i < to {
+    for i in from..to {
         if kind_of(word_from(bytes, 4 * i)) != kind {
             return false;
         }
         kind = next_kind(kind);
-        i += 1;
     }
     kind == 9
 }

@@ -50,14 +50,12 @@ impl Text {
     {
         let mut t = self;
         let mut n = t.len;
-        let mut i: usize = 0;
-        while i < s.len() {
+        for b in s {
             if n >= ROOM {
                 break;
             }
-            t.bytes[n] = s[i];
+            t.bytes[n] = *b;
             n += 1;
-            i += 1;
         }
         t.len = n;
         t

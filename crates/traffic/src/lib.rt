@@ -74,12 +74,10 @@ pub fn scene_of(t: Traffic) -> Scene
         count: 0,
         list: [nowhere(); MAX_CONTACTS],
     };
-    let mut i: usize = 0;
-    while i < count {
+    for i in 0..count {
         let e = t.list[i];
         let m = passages::moving_of(target_of(e));
         scene.list[i] = m;
-        i += 1;
     }
     scene.count = count;
     scene

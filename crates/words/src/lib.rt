@@ -20,25 +20,18 @@ pub struct Words {
 }
 
 // The word of a place, the last one for a place beyond it.
+#[tactic(auto, unfolding(crate::specs::Words::word))]
 pub fn word(w: Words, part: u32) -> u64
     ensures { result ≡ Spec.word w part }
 {
-    if part == 0 {
-        return w.number;
+    match part {
+        0 => w.number,
+        1 => w.first,
+        2 => w.second,
+        3 => w.third,
+        4 => w.fourth,
+        _ => w.fifth,
     }
-    if part == 1 {
-        return w.first;
-    }
-    if part == 2 {
-        return w.second;
-    }
-    if part == 3 {
-        return w.third;
-    }
-    if part == 4 {
-        return w.fourth;
-    }
-    w.fifth
 }
 
 // The bit pattern of a float, one and the same for every NaN.

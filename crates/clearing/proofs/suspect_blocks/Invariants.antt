@@ -1,8 +1,6 @@
-use Prim.Native.Nat.{◌-◌, ◌≤◌}
+use Rattle.std.specs.Prelude.{◌≡◌}
+use Rattle.clearing.specs.Clearing.{movings}
 use Rattle.clearing.proofs.suspect_blocks.Given as goal
 
-abbrev pub invariant-loop-k : goal.invariant-loop-k
-invariant-loop-k l = l.k ≤ l.count
-
-abbrev pub decreases-loop-k : goal.decreases-loop-k
-decreases-loop-k l = l.count - l.k
+abbrev pub invariant-loop-m : goal.invariant-loop-m
+invariant-loop-m l = l.m-items ≡ movings l.fn.scene

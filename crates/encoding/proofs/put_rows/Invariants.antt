@@ -1,14 +1,10 @@
-use Prim.Native.Nat.{◌-◌, ◌≤◌}
-use mathlib.Core.Path.{◌≡◌}
-use lib.Seq.{slice}
+use Rattle.std.specs.Prelude.{◌≡◌, drop}
 use Rattle.laws.specs.Fold.{fold}
 use Rattle.text.specs.Text.{shown}
 use Rattle.text.proofs.Pieces.{with_piece}
+use Rattle.sheet_record.specs.Record.{rows}
 use Rattle.encoding.proofs.Rows.{row_bytes}
 use Rattle.encoding.proofs.put_rows.Given as goal
 
-abbrev pub invariant-loop-i : goal.invariant-loop-i
-invariant-loop-i l = (l.i ≤ l.count) × (fold (with_piece row_bytes) (shown l.t) (slice l.i l.count l.rows.list) ≡ fold (with_piece row_bytes) (shown l.initial.t) (slice 0 l.count l.rows.list))
-
-abbrev pub decreases-loop-i : goal.decreases-loop-i
-decreases-loop-i l = l.count - l.i
+abbrev pub invariant-loop-row : goal.invariant-loop-row
+invariant-loop-row l = (l.row-items ≡ rows l.fn.rows) × (fold (with_piece row_bytes) (shown l.t) (drop l.row-index l.row-items) ≡ fold (with_piece row_bytes) (shown l.initial.t) l.row-items)

@@ -9,12 +9,6 @@ pub loop-i-init : goal.loop-i-init
 unfolding after
 loop-i-init c = (omega arith, (omega arith, refl))
 
-pub overflow_add-i : goal.overflow_add-i
-overflow_add-i c = omega (arith, c.loop-i-test.true)
-
-pub loop-i-smaller : goal.loop-i-smaller
-loop-i-smaller c = omega (arith, c.loop-i-test.true)
-
 pub loop-i-preserved : goal.loop-i-preserved
 loop-i-preserved c = (omega arith, (omega (arith, c.loop-i-test.true), step _ _ _ _ _ _ _ c.loop-i.invariant.0 c.loop-i.invariant.1.1 c.assess_at.ensures c.with_answer-p.ensures))
 

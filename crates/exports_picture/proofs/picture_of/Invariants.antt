@@ -6,6 +6,3 @@ use Rattle.exports_picture.proofs.picture_of.Given as goal
 
 abbrev pub invariant-loop-i : goal.invariant-loop-i
 invariant-loop-i l = (1 ≤ l.i) × ((l.i - 1 ≤ l.n - 1) × (targets l.p ≡ after l.floats l.policy (targets l.initial.p) (l.i - 1)))
-
-abbrev pub decreases-loop-i : goal.decreases-loop-i
-decreases-loop-i l = l.n - l.i

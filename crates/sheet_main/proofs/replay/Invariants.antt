@@ -1,5 +1,5 @@
-use Rattle.std.proofs.Common.{length, ◌-◌}
+use Rattle.std.specs.Prelude.{length}
 use Rattle.sheet_main.proofs.replay.Given as goal
 
-abbrev pub decreases-loop-from : goal.decreases-loop-from
-decreases-loop-from g l = length l.input - l.from
+abbrev pub decreases-loop-rest : goal.decreases-loop-rest
+decreases-loop-rest g l = length l.rest

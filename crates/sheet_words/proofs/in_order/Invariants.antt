@@ -1,4 +1,3 @@
-use Prim.Native.Nat.{◌-◌}
 use mathlib.Core.Path.{◌≡◌}
 use Rattle.sheet_words.specs.Word.{words}
 use Rattle.sheet_words.proofs.Words.{left}
@@ -6,6 +5,3 @@ use Rattle.sheet_words.proofs.in_order.Given as goal
 
 abbrev pub invariant-loop-i : goal.invariant-loop-i
 invariant-loop-i l = left (words l.bytes) l.to l.kind l.i ≡ left (words l.bytes) l.to l.first l.from
-
-abbrev pub decreases-loop-i : goal.decreases-loop-i
-decreases-loop-i l = l.to - l.i

@@ -1,30 +1,26 @@
-use Prim.Native.Nat.{◌+◌, ◌≤◌}
-use mathlib.Core.Path.{◌≡◌, refl, ◌∙◌}
+use Rattle.std.specs.Prelude.{◌≤◌, length, take}
+use mathlib.Core.Path.{refl, ap, ◌∙◌}
 use native.Mathlib.Omega.{arith}
-use lib.ListN.{length}
-use Rattle.room.proofs.Counts.{fits}
-use Rattle.picture.specs.Picture.{targets}
-use Rattle.picture.proofs.Loops.{left, step, done}
+use lib.ListN.{length-take}
+use Rattle.room.proofs.Counts.{take-room}
+use Rattle.room.specs.Room.{max_contacts}
+use Rattle.picture.specs.Picture.{targets, at_least}
+use Rattle.picture.proofs.Loops.{step, done}
 use Rattle.picture.proofs.CollisionPicture.at_least.Goals as goal
 
-pub loop-i-init : goal.loop-i-init
-loop-i-init c = (omega arith, (unfold targets in omega arith, unfold targets in refl))
+pub loop-e-init : goal.loop-e-init
+unfolding targets
+loop-e-init c = (take-room _ _ _ _ c.held.ensures c.well_formed.0.1.1.1.0.1.0.1, omega arith, refl)
 
-pub offset_bounds-self-i : goal.offset_bounds-self-i
-offset_bounds-self-i c = omega (arith, c.loop-i-test.true, c.held-count.ensures)
+few : (c : goal.After-push_if-out) → length (take c.held.result c.args.self.list) ≤ max_contacts
+few c = omega (arith, length-take c.held.result c.args.self.list, c.held.ensures)
 
-pub bounds-self-i : goal.bounds-self-i
-bounds-self-i c = omega (arith, c.loop-i-test.true, c.held-count.ensures)
-
-turn : (c : goal.After-push_if-out) → (length (targets c.push_if-out.result) ≤ c.loop-i.i + 1) × (left c.args.least c.args.self.list c.held-count.result (c.loop-i.i + 1) (targets c.push_if-out.result) ≡ left c.args.least c.args.self.list c.held-count.result c.loop-i.i (targets c.loop-i.out))
-turn c = step _ _ _ _ _ _ _ c.loop-i-test.true (fits _ _ _ _ c.held-count.ensures c.well_formed.0.1.1.1.0.1.0.1) (omega (arith, c.held-count.ensures)) c.loop-i.invariant.1.0 c.push_if-out.ensures
-
-pub loop-i-preserved : goal.loop-i-preserved
-loop-i-preserved c = (omega arith, ((turn c).0, (turn c).1 ∙ c.loop-i.invariant.1.1))
-
-reached : (c : goal.After-loop-i) → c.loop-i.i ≡ c.held-count.result
-reached c = omega (arith, c.loop-i-test.false, c.loop-i.invariant.0)
+pub loop-e-preserved : goal.loop-e-preserved
+loop-e-preserved c =
+    let s = step c.args.least (take c.held.result c.args.self.list) c.loop-e.e-index _ _ _ c.loop-e-test.true (few c) c.loop-e.invariant.1 c.push_if-out.ensures in
+    (c.loop-e.invariant.0, s.0, s.1 ∙ c.loop-e.invariant.2)
 
 pub returns : goal.returns
-unfolding targets
-returns c = done _ _ _ _ _ _ (reached c) c.held-count.ensures c.well_formed.0.1.1.1.0.1.0.1 c.loop-i.invariant.1.1
+returns c =
+    done c.args.least (take c.held.result c.args.self.list) c.loop-e.e-index _ (omega (arith, c.loop-e-test.false, c.loop-e.auto.e-index-end)) c.loop-e.invariant.2
+    ∙ ap (at_least c.args.least) c.loop-e.invariant.0

@@ -1,26 +1,21 @@
-use mathlib.Core.Path.{◌≡◌, refl, ◌∙◌}
+use Rattle.std.specs.Prelude.{None, take}
+use mathlib.Core.Path.{refl, ap, ◌∙◌}
 use native.Mathlib.Omega.{arith}
-use Rattle.laws.proofs.Fold.{fold_step, fold_done}
-use Rattle.room.proofs.Counts.{fits}
-use Rattle.picture.specs.Picture.{targets, most_dangerous}
-use Rattle.picture.proofs.Loops.{folded}
+use Rattle.laws.specs.Fold.{fold}
+use Rattle.laws.proofs.Fold.{fold_turn, fold_end}
+use Rattle.room.proofs.Counts.{take-room}
+use Rattle.picture.specs.Picture.{targets, keep, most_dangerous}
 use Rattle.picture.proofs.CollisionPicture.most_dangerous.Goals as goal
 
-pub loop-i-init : goal.loop-i-init
-loop-i-init c = (omega arith, refl)
+pub loop-e-init : goal.loop-e-init
+unfolding targets
+loop-e-init c = (take-room _ _ _ _ c.held.ensures c.well_formed.0.1.1.1.0.1.0.1, refl)
 
-pub offset_bounds-self-i : goal.offset_bounds-self-i
-offset_bounds-self-i c = omega (arith, c.loop-i-test.true, c.held-count.ensures)
-
-pub bounds-self-i : goal.bounds-self-i
-bounds-self-i c = omega (arith, c.loop-i-test.true, c.held-count.ensures)
-
-pub loop-i-preserved : goal.loop-i-preserved
-loop-i-preserved c = (omega arith, fold_step _ _ _ _ _ _ _ c.loop-i-test.true (fits _ _ _ _ c.held-count.ensures c.well_formed.0.1.1.1.0.1.0.1) c.keep-best.ensures ∙ c.loop-i.invariant.1)
-
-reached : (c : goal.After-loop-i) → c.loop-i.i ≡ c.held-count.result
-reached c = omega (arith, c.loop-i-test.false, c.loop-i.invariant.0)
+pub loop-e-preserved : goal.loop-e-preserved
+loop-e-preserved c = (c.loop-e.invariant.0, fold_turn _ _ _ (take c.held.result c.args.self.list) c.loop-e.e-index _ c.loop-e-test.true c.keep-best.ensures ∙ c.loop-e.invariant.1)
 
 pub returns : goal.returns
-unfolding targets most_dangerous
-returns c = folded _ _ _ _ _ c.held-count.ensures c.well_formed.0.1.1.1.0.1.0.1 (fold_done _ _ _ _ _ _ (reached c) c.loop-i.invariant.1)
+unfolding most_dangerous
+returns c =
+    fold_end _ _ _ (take c.held.result c.args.self.list) c.loop-e.e-index (omega (arith, c.loop-e-test.false, c.loop-e.auto.e-index-end)) c.loop-e.invariant.1
+    ∙ ap (fold keep None) c.loop-e.invariant.0
