@@ -1,3 +1,2 @@
 -- What the code of the avoidance owes, and that what it computes is the plain definition on accepted arguments.
 pub mod Seeds
-pub mod Steps

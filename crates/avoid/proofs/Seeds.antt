@@ -21,6 +21,7 @@ use Rattle.laws.proofs.Order.{le_trans_float}
 use Rattle.laws.proofs.Size.{small_of_tests}
 use Rattle.laws.proofs.Units.{own_units}
 use Rattle.math.specs.Sign.{abs}
+use Rattle.math.specs.Test.{larger}
 use Rattle.math.proofs.Sign.{abs-fits, abs-units, at_most_size}
 use Rattle.angle.specs.Fold.{half_turn, full_turn, whole_fold, half_fold}
 use Rattle.angle.proofs.Range.{whole_fold-fits}
@@ -38,8 +39,8 @@ use Rattle.arguments.specs.Check as Check
 use Rattle.arguments.specs.Check.{verdict, encounter_checks, distance_checks}
 use Rattle.course.specs.declared.Avoidance.{Avoidance}
 use Rattle.course.specs.Course.{course_answer}
-use Rattle.manoeuvre.specs.declared.Side.{Side}
-use Rattle.manoeuvre.specs.declared.Side.TheVariants.{Starboard, Port}
+use Rattle.motion.specs.declared.side.Side.{Side}
+use Rattle.motion.specs.declared.side.Side.TheVariants.{Starboard, Port}
 use Rattle.constraints.specs.declared.ManoeuvreConstraints.{ManoeuvreConstraints}
 use Rattle.constraints.specs.Constraints.{permits_starboard, permits_port, constraint_checks}
 use Rattle.trials.specs.Trials.{trials, Limits}
@@ -77,7 +78,7 @@ module _ (least most : Float) (L : Limits least most) where
   least-small = small_of_tests least half_turn (180 * 2 ^ 1074) 9 L.least_fits (unfold of_bits in (refl, refl)) (lit≤ tt) (unfold of_bits in L.not_negative) (le_trans_float least most half_turn L.ordered L.at_most)
 
   raised-small : (a : Float) → T (fits binary64 a) → T (le (raised least (abs a)) most) → Small 9 0 (raised least (abs a))
-  unfolding raised
+  unfolding larger
   raised-small a t h = go (lt (abs a) least) h
     where
       go : (b : Bool) → T (le (cond b least (abs a)) most) → Small 9 0 (cond b least (abs a))

@@ -19,8 +19,8 @@ use Rattle.passages.specs.declared.Target.{Target}
 use Rattle.clearing.specs.Clearing.{floor_of, altered, moving}
 use Rattle.choice.specs.declared.Chosen.{Chosen}
 use Rattle.choice.specs.Choice.{signed, trial_clears, clears_on}
-pub use Rattle.seeds.specs.Seeds.{no_courses, courses_in, seed_on, seed_choice, only}
-unfoldable pub use Rattle.seeds.specs.Seeds.{raised, seed_by, seeded_side, seeded_choice}
+pub use Rattle.seeds.specs.Seeds.{no_courses, courses_in, raised, seed_on, seed_choice, only}
+unfoldable pub use Rattle.seeds.specs.Seeds.{seed_by, seeded_side, seeded_choice}
 
 -- ---- the answer: `avoid` names no limiting contact
 abbrev pub manoeuvre_of : Vessel → ManoeuvreConstraints → Chosen → AvoidanceManoeuvre

@@ -6,7 +6,7 @@ ghost use Rattle.std.specs.Prelude.{◌≡◌};
 ghost use Rattle.arguments.specs.Check as Check;
 ghost use Rattle.avoid.specs.Avoid as Spec;
 
-use choice::Chosen;
+use choice::{Chosen, Search};
 use constraints::ManoeuvreConstraints;
 use elementary::error::Refusal;
 use manoeuvre::AvoidanceManoeuvre;
@@ -19,31 +19,17 @@ fn manoeuvre_of(own: Vessel, c: ManoeuvreConstraints, x: Chosen) -> AvoidanceMan
     ensures { result ≡ Spec.manoeuvre_of own c x }
 {
     let alteration = choice::signed(x.side, x.magnitude.0);
-    let altered = choice::altered(own, alteration);
-    let time = manoeuvre::turn_time(math::abs(alteration), c.rate_of_turn());
     AvoidanceManoeuvre::new(
-        altered.course,
+        choice::altered(own, alteration).course,
         Angle(alteration),
-        time,
+        manoeuvre::turn_time(math::abs(alteration), c.rate_of_turn()),
         x.passing.distance,
         None,
     )
 }
 
-fn answered(
-    own: Vessel,
-    c: ManoeuvreConstraints,
-    choice: Option<Chosen>,
-) -> Result<AvoidanceManoeuvre, Refusal>
-    ensures { result ≡ Spec.answered own c choice }
-{
-    match choice {
-        None => Err(Refusal::NoTrialClears),
-        Some(x) => Ok(manoeuvre_of(own, c, x)),
-    }
-}
-
 // With accepted arguments.
+#[tactic(auto, unfolding(crate::specs::Avoid::avoided_as, clearing::specs::Clearing::floor_of))]
 fn avoided(
     own: Vessel,
     contact: Contact,
@@ -58,8 +44,14 @@ fn avoided(
         contact,
         vessel: target,
     });
-    let choice = seeded_choice(own, traffic::alone(m), desired.0 - 1e-9, courses, c);
-    answered(own, c, choice)
+    let search = Search {
+        own,
+        scene: &[m],
+        floor: desired.0 - 1e-9,
+    };
+    seeded_choice(&search, courses, c)
+        .map(|x| manoeuvre_of(own, c, x))
+        .ok_or(Refusal::NoTrialClears)
 }
 
 // Own craft, the contact, the target, the desired distance, the constraints.

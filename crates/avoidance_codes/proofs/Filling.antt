@@ -1,21 +1,15 @@
 -- The loop that reads the contacts: the first i of the list are the first i of the floats.
-use mathlib.Core.Path.{◌≡◌, refl, sym, ap, ◌∙◌, subst}
+use mathlib.Core.Path.{◌≡◌, refl, sym, ap, ◌∙◌}
 use mathlib.Core.Bool.{Bool, true, false}
 use mathlib.Core.List.{List, [], ◌∷◌, ◌++◌}
-use Prim.Native.Nat.{ℕ, ◌+◌, ◌<◌, min}
+use Prim.Native.Nat.{ℕ, zero, suc, ◌+◌, ◌<◌, min}
 use native.Mathlib.Numerals.{add-one}
 use native.Mathlib.Omega.{arith}
-use lib.ListN.{length, set, take, length-set}
-use lib.Seq.{take-suc-set}
+use lib.ListN.{length, length-append}
 use lib.Ieee.{Float}
 use Rattle.room.specs.Room.{max_contacts}
-use Rattle.room.proofs.Counts.{take-held}
 use Rattle.traffic.specs.declared.Entry.{Entry}
 use Rattle.avoidance_codes.specs.Codes.{entry_at, place_of, first_of, entries}
-
-pub record Filled (wide : Bool) (floats : List Float) (list : List Entry) (i : ℕ) : Type 0 where
-  pub full : length list ≡ max_contacts
-  pub same : take i list ≡ first_of wide floats i
 
 -- where a contact's floats begin is no large number
 pub placed : (wide : Bool) (i : ℕ) → i < 100 → place_of wide i < 1000
@@ -24,17 +18,19 @@ placed true i h = omega arith
 placed false i h = omega arith
 
 module _ (wide : Bool) (floats : List Float) where
-  pub none : (list : List Entry) → length list ≡ max_contacts → Filled wide floats list 0
+  pub as_many : (n : ℕ) → length (first_of wide floats n) ≡ n
   unfolding first_of
-  none list full = record { full = full; same = refl }
+  as_many zero = refl
+  as_many (suc n) = omega (arith, length-append (first_of wide floats n) (entry_at floats (place_of wide n) ∷ []), as_many n)
 
-  pub more : (list : List Entry) (i at : ℕ) (e : Entry) → i < max_contacts → at ≡ place_of wide i → e ≡ entry_at floats at → Filled wide floats list i → Filled wide floats (set list i e) (i + 1)
+  pub one_more : (es : List Entry) (i at : ℕ) (e : Entry) → at ≡ place_of wide i → e ≡ entry_at floats at → es ≡ first_of wide floats i → es ++ (e ∷ []) ≡ first_of wide floats (i + 1)
   unfolding first_of
-  more list i at e h ea ee f = record {
-    full = length-set list i e ∙ f.full;
-    same = ap (λ j. take j (set list i e)) (add-one i) ∙ take-suc-set list i e (subst (λ n. i < n) (sym f.full) h) ∙ ap (λ l. l ++ (e ∷ [])) f.same ∙ ap (λ x. first_of wide floats i ++ (x ∷ [])) (ee ∙ ap (entry_at floats) ea) ∙ sym (ap (first_of wide floats) (add-one i));
-  }
+  one_more es i at e ea ee f = ap (λ l. l ++ (e ∷ [])) f ∙ ap (λ x. first_of wide floats i ++ (x ∷ [])) (ee ∙ ap (entry_at floats) ea) ∙ sym (ap (first_of wide floats) (add-one i))
 
-  pub filled : (list : List Entry) (i n count : ℕ) → i ≡ n → n ≡ min count max_contacts → Filled wide floats list i → take count list ≡ entries wide floats count
+  pub all_read : (es : List Entry) (i n count : ℕ) → i ≡ n → n ≡ min count max_contacts → es ≡ first_of wide floats i → es ≡ entries wide floats count
   unfolding entries
-  filled list i n count e is f = sym (take-held count list) ∙ ap (λ k. take k list) (ap (min count) f.full ∙ sym is ∙ sym e) ∙ f.same ∙ ap (first_of wide floats) (e ∙ is)
+  all_read es i n count e is f = f ∙ ap (first_of wide floats) (e ∙ is)
+
+  pub few-entries : (count : ℕ) → length (entries wide floats count) ≡ min count max_contacts
+  unfolding entries
+  few-entries count = as_many (min count max_contacts)

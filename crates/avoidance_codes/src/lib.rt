@@ -2,14 +2,14 @@
 #![tactic(auto)]
 
 ghost use Rattle.std.specs.Prelude.{◌≡◌, ◌<◌};
-ghost use Rattle.traffic.specs.Traffic as Around;
 ghost use Rattle.avoidance_codes.specs.Codes as Spec;
 
+use arrayvec::ArrayVec;
 use constraints::{ManoeuvreConstraints, PermittedSides};
 use elementary::error::Refusal;
 use motion::units::{Angle, RateOfTurn};
 use room::MAX_CONTACTS;
-use traffic::{Entry, Traffic};
+use traffic::Entry;
 
 // 0 either side, 1 starboard, 2 port.
 #[tactic(auto, unfolding(crate::specs::Codes::permitted_sides))]
@@ -71,21 +71,14 @@ fn place_of(wide: bool, i: usize) -> usize
     5 + 4 * i
 }
 
-// The first `count` contacts of a list of floats, at most MAX_CONTACTS; the count is kept as it is.
-pub fn traffic_of(wide: bool, count: usize, floats: &[f64]) -> Traffic
-    ensures counted { result.count ≡ count }
-    ensures listed { Around.contacts result ≡ Spec.entries wide floats.now count }
+// The first `count` contacts of a list of floats, at most MAX_CONTACTS.
+pub fn traffic_of(wide: bool, count: usize, floats: &[f64]) -> ArrayVec<Entry, MAX_CONTACTS>
+    ensures { result.items ≡ Spec.entries wide floats.now count }
 {
     let n = room::held(count);
-    let nobody = entry_at(floats, 0);
-    let mut t = Traffic {
-        count: 0,
-        list: [nobody; MAX_CONTACTS],
-    };
+    let mut t = ArrayVec::new();
     for i in 0..n {
-        let e = entry_at(floats, place_of(wide, i));
-        t.list[i] = e;
+        t.push(entry_at(floats, place_of(wide, i)));
     }
-    t.count = count;
     t
 }

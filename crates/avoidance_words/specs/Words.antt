@@ -1,7 +1,7 @@
 -- The parts of a manoeuvre as words.
 use Rattle.std.specs.Prelude.{List, [], ◌∷◌, ℕ, ◌+◌, ◌%◌, None, Some}
-use Rattle.manoeuvre.specs.declared.Side.{Side}
-use Rattle.manoeuvre.specs.declared.Side.TheVariants.{Starboard, Port}
+use Rattle.motion.specs.declared.side.Side.{Side}
+use Rattle.motion.specs.declared.side.Side.TheVariants.{Starboard, Port}
 use Rattle.std.specs.declared.option.Option.{Option}
 use Rattle.time.specs.declared.Duration.{Duration}
 

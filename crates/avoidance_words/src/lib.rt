@@ -4,10 +4,10 @@
 ghost use Rattle.std.specs.Prelude.{◌≡◌};
 ghost use Rattle.avoidance_words.specs.Words as Spec;
 
-use manoeuvre::Side;
+use motion::side::Side;
 use time::Duration;
 
-// 0 starboard, 1 port.
+// 0 starboard, 1 port: the codes of the C interface, since the enum has no numbers of its own.
 pub fn side_word(side: Side) -> u64
     ensures { result ≡ Spec.side_word side }
 {
@@ -21,10 +21,7 @@ pub fn side_word(side: Side) -> u64
 pub fn limiting_word(limiting: Option<usize>) -> u64
     ensures { result ≡ Spec.limiting_word limiting }
 {
-    match limiting {
-        None => 0,
-        Some(place) => (place % 64) as u64 + 1,
-    }
+    limiting.map_or(0, |place| (place % 64) as u64 + 1)
 }
 
 // Side, size, course, passing distance and limiting contact are words already.

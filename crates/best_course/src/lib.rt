@@ -4,7 +4,7 @@
 ghost use Rattle.std.specs.Prelude.{◌≡◌};
 ghost use Rattle.best_course.specs.Offers as Spec;
 
-// The best course so far on a side: by how much it alters, and the course.
+// The best course so far on a side: by how much it alters to that side, and the course.
 #[derive(Clone, Copy)]
 pub struct Best {
     pub alteration: f64,
@@ -17,7 +17,7 @@ pub struct Choice {
     pub port: Option<Best>,
 }
 
-// The smaller of two alterations to starboard.
+// The smaller of two alterations to a side, the first of equals.
 fn smaller(best: Option<Best>, offer: Best) -> Option<Best>
     ensures { result ≡ Spec.smaller best offer.alteration offer.course }
 {
@@ -32,37 +32,26 @@ fn smaller(best: Option<Best>, offer: Best) -> Option<Best>
     }
 }
 
-// The larger of two alterations: to port they are negative.
-fn larger(best: Option<Best>, offer: Best) -> Option<Best>
-    ensures { result ≡ Spec.larger best offer.alteration offer.course }
-{
-    match best {
-        None => Some(offer),
-        Some(most) => {
-            if offer.alteration > most.alteration {
-                return Some(offer);
-            }
-            Some(most)
-        }
-    }
-}
-
 // One course more to choose from. No alteration at all belongs to neither side.
+#[tactic(auto, unfolding(crate::specs::Offers::offered))]
 pub fn offered(own_course: f64, course: f64, choice: Choice) -> Choice
     ensures { result ≡ Spec.offered own_course course choice }
 {
     let alteration = angle::wrap180(course - own_course);
-    let offer = Best { alteration, course };
     if alteration > 0.0 {
         return Choice {
-            starboard: smaller(choice.starboard, offer),
-            port: choice.port,
+            starboard: smaller(choice.starboard, Best { alteration, course }),
+            ..choice
         };
     }
     if alteration < 0.0 {
+        let to_port = Best {
+            alteration: -alteration,
+            course,
+        };
         return Choice {
-            starboard: choice.starboard,
-            port: larger(choice.port, offer),
+            port: smaller(choice.port, to_port),
+            ..choice
         };
     }
     choice

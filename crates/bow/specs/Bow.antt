@@ -4,6 +4,7 @@ use Rattle.std.specs.Float.{nan, binary64}
 use Rattle.std.specs.Float.Ieee.{neg, lt, le, of_bits}
 use Rattle.laws.specs.Ops.{◌⊕◌, ◌⊖◌, ◌⊗◌, ◌⊘◌}
 use Rattle.math.specs.Sign.{abs}
+use Rattle.math.specs.Test.{larger}
 use Rattle.elementary.specs.Refusal.{number_of}
 use Rattle.elementary.specs.declared.error.Refusal.TheVariants as Why
 use Rattle.std.specs.declared.result.Result.{Result}
@@ -23,8 +24,8 @@ abbrev pub tolerance : Float
 tolerance = of_bits binary64 0x3e11_2e0b_e826_d695
 
 -- `.max(0.0)`: what is below 0, and what is no number, is 0
-unfoldable pub not_negative : Float → Float
-not_negative x = cond (lt zero x) x zero
+abbrev pub not_negative : Float → Float
+not_negative x = larger zero x
 
 unfoldable pub determinant : Components → Components → Float
 determinant relative ahead = relative.north ⊗ neg ahead.east ⊖ relative.east ⊗ neg ahead.north

@@ -16,17 +16,8 @@ const PARALLEL: f64 = 1e-12;
 // How far astern, in parts of the range, still counts as over own craft.
 const TOLERANCE: f64 = 1e-9;
 
-// x, or 0 where it is below 0 or no number.
-fn not_negative(x: f64) -> f64
-    ensures { result ≡ Spec.not_negative x }
-{
-    if 0.0 < x {
-        return x;
-    }
-    0.0
-}
-
 // offset + relative * time = ahead * range, solved for the time and the range.
+#[tactic(auto, unfolding(crate::specs::Bow::crossing, crate::specs::Bow::determinant))]
 pub fn crossing(
     range: f64,
     offset: Components,
@@ -47,10 +38,11 @@ pub fn crossing(
     if range_ahead < -(range * TOLERANCE) {
         return Err(Refusal::NotAhead);
     }
-    Ok(Distance(not_negative(range_ahead)))
+    Ok(Distance(math::larger(0.0, range_ahead)))
 }
 
 // The range ahead at which the contact crosses own track.
+#[tactic(auto, unfolding(crate::specs::Bow::bow_answer))]
 pub fn bow_crossing_range(
     own: Vessel,
     contact: Contact,

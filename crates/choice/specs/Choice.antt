@@ -11,8 +11,8 @@ use Rattle.choice.specs.declared.Chosen.{Chosen}
 use Rattle.clearing.specs.declared.Passing.{Passing}
 use Rattle.std.specs.declared.option.Option.{Option}
 use Rattle.clearing.specs.Clearing.{altered, clears, clears_at}
-use Rattle.manoeuvre.specs.declared.Side.{Side}
-use Rattle.manoeuvre.specs.declared.Side.TheVariants.{Starboard, Port}
+use Rattle.motion.specs.declared.side.Side.{Side}
+use Rattle.motion.specs.declared.side.Side.TheVariants.{Starboard, Port}
 use Rattle.trials.specs.Trials.{trials}
 use Rattle.choice.specs.declared.Sides.{Sides}
 

@@ -8,10 +8,11 @@ ghost use Rattle.std.specs.Prelude.{◌≡◌};
 ghost use Rattle.clearing.specs.Clearing as Clearing;
 ghost use Rattle.choice.specs.Choice as Spec;
 
-use clearing::{Passing, Scene};
-use manoeuvre::Side;
+use clearing::Passing;
+use motion::side::Side;
 use motion::units::{Angle, Direction};
 use motion::vessel::Vessel;
+use passages::Moving;
 
 // The sides to which own craft may alter.
 #[derive(Clone, Copy)]
@@ -39,12 +40,14 @@ pub fn signed(side: Side, magnitude: f64) -> f64
 }
 
 // Own craft with her course altered.
+#[tactic(auto, unfolding(clearing::specs::Clearing::altered))]
 pub fn altered(own: Vessel, alteration: f64) -> Vessel
     ensures { result ≡ Clearing.altered own alteration }
 {
-    let speed = own.speed;
-    let course = Direction(angle::from_degrees_wrapped(own.course.0 + alteration));
-    Vessel { course, speed }
+    Vessel {
+        course: Direction(angle::from_degrees_wrapped(own.course.0 + alteration)),
+        ..own
+    }
 }
 
 fn chosen_if(side: Side, magnitude: f64, c: Option<Passing>) -> Option<Chosen>
@@ -58,56 +61,53 @@ fn chosen_if(side: Side, magnitude: f64, c: Option<Passing>) -> Option<Chosen>
     })
 }
 
-// A trial, on a side that is permitted or not.
-pub fn try_side(
-    own: Vessel,
-    scene: Scene,
-    floor: f64,
-    permitted: bool,
-    side: Side,
-    magnitude: f64,
-) -> Option<Chosen>
-    ensures { result ≡ Spec.tried permitted side magnitude (Spec.clears_on own floor (Clearing.movings scene) side magnitude) }
-{
-    if permitted {
-        let v = altered(own, signed(side, magnitude));
-        return chosen_if(
-            side,
-            magnitude,
-            clearing::clears(v.velocity(), scene, floor),
-        );
-    }
-    None
+// Own craft among the contacts of a scene, none of which may come nearer than `floor`.
+#[derive(Clone, Copy)]
+pub struct Search<'a> {
+    pub own: Vessel,
+    pub scene: &'a [Moving],
+    pub floor: f64,
 }
 
-// The trials of one magnitude, starboard first.
-fn try_both(own: Vessel, scene: Scene, floor: f64, sides: Sides, magnitude: f64) -> Option<Chosen>
-    ensures { result ≡ Spec.tried_both own floor (Clearing.movings scene) sides magnitude }
-{
-    let Sides { starboard, port } = sides;
-    match try_side(own, scene, floor, starboard, Side::Starboard, magnitude) {
-        Some(c) => Some(c),
-        None => try_side(own, scene, floor, port, Side::Port, magnitude),
+impl<'a> Search<'a> {
+    // A trial, on a side that is permitted or not.
+    #[tactic(auto, unfolding(crate::specs::Choice::clears_on))]
+    pub fn try_side(&self, permitted: bool, side: Side, magnitude: f64) -> Option<Chosen>
+        ensures { result ≡ Spec.tried permitted side magnitude (Spec.clears_on self.now.own self.now.floor self.now.scene.now side magnitude) }
+    {
+        if permitted {
+            let v = altered(self.own, signed(side, magnitude));
+            return chosen_if(
+                side,
+                magnitude,
+                clearing::clears(v.velocity(), self.scene, self.floor),
+            );
+        }
+        None
     }
-}
 
-// The smallest trial on a permitted side that clears the scene.
-pub fn smallest(
-    own: Vessel,
-    scene: Scene,
-    floor: f64,
-    sides: Sides,
-    least: f64,
-    most: f64,
-) -> Option<Chosen>
-    ensures { result ≡ Spec.smallest own floor (Clearing.movings scene) sides least most }
-{
-    let count = trials::count(least, most);
-    for k in 0..count {
-        let c = try_both(own, scene, floor, sides, trials::trial(least, most, k));
-        if c.is_some() {
-            return c;
+    // The trials of one magnitude, starboard first.
+    #[tactic(auto, unfolding(crate::specs::Choice::tried_both, crate::specs::Choice::both))]
+    fn try_both(&self, sides: Sides, magnitude: f64) -> Option<Chosen>
+        ensures { result ≡ Spec.tried_both self.now.own self.now.floor self.now.scene.now sides magnitude }
+    {
+        match self.try_side(sides.starboard, Side::Starboard, magnitude) {
+            Some(c) => Some(c),
+            None => self.try_side(sides.port, Side::Port, magnitude),
         }
     }
-    None
+
+    // The smallest trial on a permitted side that clears the scene.
+    pub fn smallest(&self, sides: Sides, least: f64, most: f64) -> Option<Chosen>
+        ensures { result ≡ Spec.smallest self.now.own self.now.floor self.now.scene.now sides least most }
+    {
+        let count = trials::count(least, most);
+        for k in 0..count {
+            let c = self.try_both(sides, trials::trial(least, most, k));
+            if c.is_some() {
+                return c;
+            }
+        }
+        None
+    }
 }

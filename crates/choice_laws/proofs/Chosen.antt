@@ -11,8 +11,8 @@ use lib.Ieee.Bits.{is_true}
 use Rattle.laws.specs.Ascending.{Ascending}
 use Rattle.laws.proofs.Bools.{holds, fails}
 use Rattle.laws.proofs.Order.{lt_trans, eq-lt, apart}
-use Rattle.manoeuvre.specs.declared.Side.{Side}
-use Rattle.manoeuvre.specs.declared.Side.TheVariants.{Starboard, Port}
+use Rattle.motion.specs.declared.side.Side.{Side}
+use Rattle.motion.specs.declared.side.Side.TheVariants.{Starboard, Port}
 use Rattle.clearing.specs.declared.Passing.{Passing}
 use Rattle.std.specs.declared.option.Option.{Option}
 use Rattle.choice.specs.declared.Sides.{Sides}

@@ -10,7 +10,7 @@ use lib.Ieee.{Float, lt}
 use Rattle.laws.specs.Ascending.{Ascending}
 use Rattle.laws.specs.Fold.{fold}
 use Rattle.laws.proofs.Order.{lt_not_self, lt_trans}
-use Rattle.manoeuvre.specs.declared.Side.{Side}
+use Rattle.motion.specs.declared.side.Side.{Side}
 use Rattle.std.specs.declared.option.Option.{Option}
 use Rattle.clearing.specs.declared.Passing.{Passing}
 use Rattle.choice.specs.declared.Chosen.{Chosen}

@@ -15,8 +15,8 @@ use Rattle.laws.proofs.Order.{le_trans_float}
 use Rattle.laws.proofs.Size.{small_of_tests, neg_small}
 use Rattle.motion.specs.declared.units.Distance.{Distance}
 use Rattle.motion.specs.declared.vessel.Vessel.{Vessel}
-use Rattle.manoeuvre.specs.declared.Side.{Side}
-use Rattle.manoeuvre.specs.declared.Side.TheVariants.{Starboard, Port}
+use Rattle.motion.specs.declared.side.Side.{Side}
+use Rattle.motion.specs.declared.side.Side.TheVariants.{Starboard, Port}
 use Rattle.trials.specs.Trials.{trial, trials, half_turn, Limits}
 use Rattle.trials.proofs.Climbing.{is_trial_list}
 use Rattle.trials.proofs.Listed.{entry, ascending}

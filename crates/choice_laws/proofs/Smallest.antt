@@ -10,8 +10,8 @@ use Rattle.laws.specs.Ascending.{Ascending}
 use Rattle.laws.specs.Fold.{fold}
 use Rattle.laws.proofs.Bools.{refuted}
 use Rattle.laws.proofs.Order.{lt_not_self, lt_trans, lt_self}
-use Rattle.manoeuvre.specs.declared.Side.{Side}
-use Rattle.manoeuvre.specs.declared.Side.TheVariants.{Starboard, Port}
+use Rattle.motion.specs.declared.side.Side.{Side}
+use Rattle.motion.specs.declared.side.Side.TheVariants.{Starboard, Port}
 use Rattle.std.specs.declared.option.Option.{Option}
 use Rattle.clearing.specs.declared.Passing.{Passing}
 use Rattle.choice.specs.declared.Sides.{Sides}

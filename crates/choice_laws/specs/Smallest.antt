@@ -2,8 +2,8 @@
 use Rattle.std.specs.Prelude.{◌≡◌, Bool, T, Float, None, Some}
 use mathlib.Core.List.{List, Memᴰ}
 use Rattle.std.specs.Float.Ieee.{eq, lt}
-use Rattle.manoeuvre.specs.declared.Side.{Side}
-use Rattle.manoeuvre.specs.declared.Side.TheVariants.{Starboard, Port}
+use Rattle.motion.specs.declared.side.Side.{Side}
+use Rattle.motion.specs.declared.side.Side.TheVariants.{Starboard, Port}
 use Rattle.clearing.specs.declared.Passing.{Passing}
 use Rattle.std.specs.declared.option.Option.{Option}
 use Rattle.choice.specs.declared.Sides.{Sides}

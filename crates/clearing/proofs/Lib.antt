@@ -1,3 +1,2 @@
 -- What the code of clearing owes, and its laws.
 pub mod Loop
-pub mod Steps

@@ -1,7 +1,7 @@
 -- The loop over the contacts: each turn joins one more of those that are left, and one that blocks decides, wherever it stands.
-use Rattle.std.specs.Prelude.{None, Some}
+use Rattle.std.specs.Prelude.{None, Some, is_some}
 use mathlib.Core.Path.{◌≡◌, refl, sym, ap, ◌∙◌}
-use mathlib.Core.Bool.{true, false, true≢false}
+use mathlib.Core.Bool.{Bool, true, false, not, true≢false}
 use mathlib.Core.List.{List, [], ◌∷◌, map}
 use Prim.Native.Nat.{ℕ, zero, suc, ◌+◌, ◌<◌}
 use native.Mathlib.Nat.{le_of_lt, lt_of_lt_of_le}
@@ -13,7 +13,7 @@ use Rattle.std.specs.declared.option.Option.{Option}
 use Rattle.motion.specs.declared.units.Distance.{Distance}
 use Rattle.clearing.specs.declared.Tally.{Tally}
 use Rattle.clearing.specs.declared.Tally.TheVariants.{Stopped, Free, Least}
-use Rattle.clearing.specs.Clearing.{join, tally, cleared, clearing, is_blocked, is_stopped}
+use Rattle.clearing.specs.Clearing.{join, tally, cleared, clearing, is_stopped}
 
 -- one that blocks decides
 pub stays_stopped : (place : ℕ) (ps : List (Option Distance)) → tally place Stopped ps ≡ Stopped
@@ -30,9 +30,9 @@ is_stopped_lem Stopped h = refl
 is_stopped_lem Free h = absurd (true≢false (sym h))
 is_stopped_lem (Least l) h = absurd (true≢false (sym h))
 
-is_blocked_lem : (p : Option Distance) → is_blocked p ≡ true → p ≡ None
-is_blocked_lem None h = refl
-is_blocked_lem (Some d) h = absurd (true≢false (sym h))
+pub is_none_lem : (p : Option Distance) (b : Bool) → is_some p ≡ not b → b ≡ true → p ≡ None
+is_none_lem None b e h = refl
+is_none_lem (Some d) b e h = absurd (true≢false (e ∙ ap not h))
 
 module _ {A : Type 0} (f : A → Option Distance) (l : List A) where
   -- what is still to be joined, from i on
@@ -51,7 +51,7 @@ module _ {A : Type 0} (f : A → Option Distance) (l : List A) where
   stopped i t h = ap (left i) (is_stopped_lem t h) ∙ stays_stopped i (map f (drop i l))
 
   -- one that blocks, at i, stops a tally from any place j before
-  pub one_blocks : (i : ℕ) (d : A) (p : Option Distance) → i < length l → p ≡ f (get_or l i d) → is_blocked p ≡ true → left 0 Free ≡ Stopped
+  pub one_blocks : (i : ℕ) (d : A) (p : Option Distance) → i < length l → p ≡ f (get_or l i d) → p ≡ None → left 0 Free ≡ Stopped
   unfolding join
   one_blocks i d p h e b = from i 0 (none i) Free
     where
@@ -68,7 +68,7 @@ module _ {A : Type 0} (f : A → Option Distance) (l : List A) where
       next j r g = omega arith
 
       at : (t : Tally) → left i t ≡ Stopped
-      at t = sym (step i t Stopped p d h e (ap (join t i) (sym (is_blocked_lem p b)))) ∙ stays_stopped (i + 1) (map f (drop (i + 1) l))
+      at t = sym (step i t Stopped p d h e (ap (join t i) (sym b))) ∙ stays_stopped (i + 1) (map f (drop (i + 1) l))
 
       from : (r j : ℕ) → j + r ≡ i → (t : Tally) → left j t ≡ Stopped
       from zero j g t = ap (λ j. left j t) (here j g) ∙ at t

@@ -1,5 +1,5 @@
 -- Whether the traffic is clear on a course (avoidance.rs, `clears`; 01, 'Trial list': 'a trial clears if no contact, by `closest_point_of_approach` on the altered course, closes under desired minus 1e-9. A contact's passing distance is its CPA on that course if closing there, else its present range. The limiting contact is the first with the least passing distance').
-use Rattle.std.specs.Prelude.{Bool, true, false, cond, List, [], ◌∷◌, map, ℕ, suc, take, Float, None, Some}
+use Rattle.std.specs.Prelude.{Bool, true, false, cond, List, [], ◌∷◌, map, ℕ, suc, Float, None, Some}
 use Rattle.std.specs.Float.{binary64}
 use Rattle.std.specs.Float.Ieee.{lt, of_bits}
 use Rattle.laws.specs.Ops.{◌⊕◌, ◌⊖◌}
@@ -12,7 +12,6 @@ use Rattle.passages.specs.declared.Target.{Target}
 use Rattle.passages.specs.declared.Moving.{Moving}
 pub use Rattle.passages.specs.Passages.{passed, passed_by}
 unfoldable pub use Rattle.passages.specs.Passages.{passage, moving, passage_at}
-use Rattle.clearing.specs.declared.Scene.{Scene}
 use Rattle.clearing.specs.declared.Passing.{Passing}
 use Rattle.clearing.specs.declared.Tally.{Tally}
 use Rattle.clearing.specs.declared.Tally.TheVariants.{Stopped, Free, Least}
@@ -64,18 +63,10 @@ clears own alteration targets desired = clearing (map (passage (altered own alte
 
 -- ---- what is computed: by `passage_at` of each contact
 
-abbrev pub is_blocked : Option Distance → Bool
-is_blocked None = true
-is_blocked (Some d) = false
-
 abbrev pub is_stopped : Tally → Bool
 is_stopped Stopped = true
 is_stopped Free = false
 is_stopped (Least l) = false
-
--- the contacts of a scene
-unfoldable pub movings : Scene → List Moving
-movings s = take s.count s.list
 
 unfoldable pub clears_at : Components → Float → List Moving → Option Passing
 clears_at own floor ms = clearing (map (passage_at own floor) ms)

@@ -14,17 +14,9 @@ use motion::units::Distance;
 use motion::vessel;
 use motion::vessel::Components;
 use passages::{Moving, passage_of};
-use room::MAX_CONTACTS;
 
 // How many times the square of the wanted distance a suspect's may be.
 const DOUBT: f64 = 1.000001;
-
-// The first `count` of the list.
-#[derive(Clone, Copy)]
-pub struct Scene {
-    pub count: usize,
-    pub list: [Moving; MAX_CONTACTS],
-}
 
 // The least passing distance, and whose it is.
 #[derive(Clone, Copy)]
@@ -41,6 +33,7 @@ pub enum Tally {
     Least(Passing),
 }
 
+#[tactic(auto, unfolding(crate::specs::Clearing::join))]
 fn joined(tally: Tally, place: usize, p: Option<Distance>) -> Tally
     ensures { result ≡ Spec.join tally place p }
 {
@@ -68,11 +61,7 @@ fn joined(tally: Tally, place: usize, p: Option<Distance>) -> Tally
 fn is_stopped(tally: Tally) -> bool
     ensures { result ≡ Spec.is_stopped tally }
 {
-    match tally {
-        Tally::Stopped => true,
-        Tally::Free => false,
-        Tally::Least(least) => false,
-    }
+    matches!(tally, Tally::Stopped)
 }
 
 fn cleared(tally: Tally) -> Option<Passing>
@@ -91,44 +80,32 @@ fn cleared(tally: Tally) -> Option<Passing>
 // Whether a contact seems to close to a point nearer than the root of `square`: that point's distance is the offset's cross product with
 // the relative velocity, over the relative speed. Nothing is promised of it.
 fn is_suspect(own: Components, m: Moving, square: f64) -> bool {
-    let offset = m.offset;
     let relative = vessel::difference(m.velocity, own);
-    let rate = offset.north * relative.north + offset.east * relative.east;
-    let cross = offset.north * relative.east - offset.east * relative.north;
+    let rate = m.offset.north * relative.north + m.offset.east * relative.east;
+    let cross = m.offset.north * relative.east - m.offset.east * relative.north;
     let speed = relative.north * relative.north + relative.east * relative.east;
     (rate < 0.0) & (cross * cross < square * speed)
 }
 
-fn is_blocked(p: Option<Distance>) -> bool
-    ensures { result ≡ Spec.is_blocked p }
-{
-    match p {
-        None => true,
-        Some(d) => false,
-    }
-}
-
 // Whether one of the suspects blocks the course.
-fn suspect_blocks(own: Components, scene: Scene, floor: f64) -> bool
-    ensures { result ≡ true → Spec.clears_at own floor (Spec.movings scene) ≡ None }
+fn suspect_blocks(own: Components, scene: &[Moving], floor: f64) -> bool
+    ensures { result ≡ true → Spec.clears_at own floor scene.now ≡ None }
 {
     let square = floor * floor * DOUBT;
-    for m in &scene.list[..room::held(scene.count)] {
-        if is_suspect(own, *m, square) {
-            if is_blocked(passage_of(own, *m, floor)) {
-                return true;
-            }
+    for m in scene {
+        if is_suspect(own, *m, square) && passage_of(own, *m, floor).is_none() {
+            return true;
         }
     }
     false
 }
 
 // All contacts, each worked out.
-fn tallied(own: Components, scene: Scene, floor: f64) -> Option<Passing>
-    ensures { result ≡ Spec.clears_at own floor (Spec.movings scene) }
+fn tallied(own: Components, scene: &[Moving], floor: f64) -> Option<Passing>
+    ensures { result ≡ Spec.clears_at own floor scene.now }
 {
     let mut tally = Tally::Free;
-    for (place, m) in scene.list[..room::held(scene.count)].iter().enumerate() {
+    for (place, m) in scene.iter().enumerate() {
         tally = joined(tally, place, passage_of(own, *m, floor));
         if is_stopped(tally) {
             return None;
@@ -138,8 +115,8 @@ fn tallied(own: Components, scene: Scene, floor: f64) -> Option<Passing>
 }
 
 // With own craft at a velocity, whether no contact of the scene closes under `floor`.
-pub fn clears(own: Components, scene: Scene, floor: f64) -> Option<Passing>
-    ensures { result ≡ Spec.clears_at own floor (Spec.movings scene) }
+pub fn clears(own: Components, scene: &[Moving], floor: f64) -> Option<Passing>
+    ensures { result ≡ Spec.clears_at own floor scene.now }
 {
     if suspect_blocks(own, scene, floor) {
         return None;

@@ -9,7 +9,6 @@ use Rattle.std.specs.declared.result.Result.{Result}
 use Rattle.elementary.specs.declared.error.Refusal.{Refusal}
 use Rattle.arguments.specs.Check.{verdict}
 use Rattle.situation.specs.declared.party.Tack.{Tack}
-use Rattle.situation.specs.declared.party.Tack.TheVariants as Tack
 use Rattle.situation.specs.declared.party.VesselCategory.{VesselCategory}
 use Rattle.situation.specs.declared.party.VesselCategory.TheVariants.{PowerDriven, Sailing, Fishing, ConstrainedByDraught, RestrictedInAbilityToManoeuvre, NotUnderCommand}
 use Rattle.situation.specs.declared.party.Visibility.{Visibility}
@@ -17,10 +16,8 @@ use Rattle.situation.specs.declared.party.Visibility.TheVariants.{InSight, Restr
 use Rattle.situation.specs.declared.party.Situation.{Situation}
 use Rattle.situation.specs.declared.config.ColregsConfig.{ColregsConfig}
 use Rattle.facts.specs.declared.Windward.{Windward}
-use Rattle.facts.specs.declared.Windward.TheVariants as Windward
 use Rattle.facts.specs.declared.Facts.{Facts}
-use Rattle.colregs.specs.declared.answer.Side.{Side}
-use Rattle.colregs.specs.declared.answer.Side.TheVariants as Side
+use Rattle.motion.specs.declared.side.Side.{Side}
 use Rattle.colregs.specs.declared.answer.Encounter.{Encounter}
 use Rattle.colregs.specs.declared.answer.Encounter.TheVariants.{Overtaking, BeingOvertaken, HeadOn, Crossing}
 use Rattle.colregs.specs.declared.answer.Responsibility.{Responsibility}

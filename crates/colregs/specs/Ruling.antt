@@ -2,7 +2,6 @@
 use Rattle.std.specs.Prelude.{ℕ, Err, Ok}
 use Rattle.elementary.specs.Refusal.{number_of}
 use Rattle.colregs.specs.declared.answer.Rule.{Rule}
-use Rattle.colregs.specs.declared.answer.Rule.TheVariants as Rule
 use Rattle.colregs.specs.declared.answer.Ruling.{Ruling}
 use Rattle.std.specs.declared.result.Result.{Result}
 use Rattle.elementary.specs.declared.error.Refusal.{Refusal}

@@ -2,13 +2,7 @@
 ghost use Rattle.std.specs.Prelude.{◌≡◌};
 ghost use Rattle.colregs.specs.Ruling as Spec;
 
-use elementary::error::Refusal;
-
-#[derive(Clone, Copy)]
-pub enum Side {
-    Port,
-    Starboard,
-}
+use motion::side::Side;
 
 #[derive(Clone, Copy)]
 pub enum Encounter {

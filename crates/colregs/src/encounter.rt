@@ -2,53 +2,55 @@
 ghost use Rattle.std.specs.Prelude.{◌≡◌};
 ghost use Rattle.colregs.specs.Colregs as Spec;
 
-use crate::answer::{Encounter, Side};
+use crate::answer::Encounter;
 use facts::Facts;
+use motion::side::Side;
 use situation::config::ColregsConfig;
 
 // Nearer to the bow than this, in degrees, is dead ahead.
 const DEAD_AHEAD: f64 = 1e-9;
 
 // Rule 13(b): whether a direction off a vessel's bow is more than the limit abaft her beam.
+#[tactic(auto, unfolding(crate::specs::Colregs::abaft))]
 fn abaft(config: ColregsConfig, direction: f64) -> bool
     ensures { result ≡ Spec.abaft config direction }
 {
     math::abs(direction) > 90.0 + config.overtaking_abaft_beam.0
 }
 
+#[tactic(auto, unfolding(crate::specs::Colregs::own_comes_up))]
 fn own_comes_up(config: ColregsConfig, f: Facts) -> bool
     ensures { result ≡ Spec.own_comes_up config f }
 {
-    let astern = abaft(config, f.aspect);
-    f.closing && astern
+    f.closing && abaft(config, f.aspect)
 }
 
+#[tactic(auto, unfolding(crate::specs::Colregs::target_comes_up))]
 fn target_comes_up(config: ColregsConfig, f: Facts) -> bool
     ensures { result ≡ Spec.target_comes_up config f }
 {
-    let astern = abaft(config, f.relative);
-    f.closing && astern
+    f.closing && abaft(config, f.relative)
 }
 
 // Where each comes up from astern of the other, the faster one overtakes.
+#[tactic(auto, unfolding(crate::specs::Colregs::own_overtakes))]
 fn own_overtakes(config: ColregsConfig, f: Facts) -> bool
     ensures { result ≡ Spec.own_overtakes config f }
 {
-    let own_up = own_comes_up(config, f);
-    let target_up = target_comes_up(config, f);
-    own_up && (!target_up || f.own_speed.0 > f.target_speed.0)
+    own_comes_up(config, f) && (!target_comes_up(config, f) || f.own_speed.0 > f.target_speed.0)
 }
 
 // Rule 14(b): each sees the other ahead or nearly ahead.
+#[tactic(auto, unfolding(crate::specs::Colregs::is_head_on))]
 fn is_head_on(config: ColregsConfig, f: Facts) -> bool
     ensures { result ≡ Spec.is_head_on config f }
 {
-    let relative = math::abs(f.relative);
-    let aspect = math::abs(f.aspect);
-    relative <= config.head_on_half_width.0 && aspect <= config.head_on_half_width.0
+    math::abs(f.relative) <= config.head_on_half_width.0
+        && math::abs(f.aspect) <= config.head_on_half_width.0
 }
 
 // The side on which own craft has the other.
+#[tactic(auto, unfolding(crate::specs::Colregs::side_of))]
 fn side_of(f: Facts) -> Side
     ensures { result ≡ Spec.side_of f }
 {
@@ -65,6 +67,7 @@ fn side_of(f: Facts) -> Side
 }
 
 // Overtaking before being overtaken, head-on next, else crossing (Rules 13 to 15).
+#[tactic(auto, unfolding(crate::specs::Colregs::encounter_of, crate::specs::Colregs::target_overtakes))]
 pub fn encounter_of(config: ColregsConfig, f: Facts) -> Encounter
     ensures { result ≡ Spec.encounter_of config f }
 {

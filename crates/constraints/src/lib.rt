@@ -37,26 +37,19 @@ impl PermittedSides {
     pub fn starboard(self) -> bool
         ensures { result ≡ Spec.permits_starboard self }
     {
-        match self {
-            PermittedSides::Either => true,
-            PermittedSides::Starboard => true,
-            PermittedSides::Port => false,
-        }
+        !matches!(self, PermittedSides::Port)
     }
 
     // Whether an alteration to port is permitted.
     pub fn port(self) -> bool
         ensures { result ≡ Spec.permits_port self }
     {
-        match self {
-            PermittedSides::Either => true,
-            PermittedSides::Starboard => false,
-            PermittedSides::Port => true,
-        }
+        !matches!(self, PermittedSides::Starboard)
     }
 }
 
 // The least alteration from 0 to 180 degrees, then the most from there to 180 (number 4).
+#[tactic(auto, unfolding(arguments::specs::Check::verdict))]
 pub fn check_alterations(least: Angle, most: Angle) -> Result<(), Refusal>
     ensures { result ≡ Check.checked (Spec.alteration_checks least most) }
 {
@@ -70,6 +63,7 @@ pub fn check_alterations(least: Angle, most: Angle) -> Result<(), Refusal>
     )
 }
 
+#[tactic(auto, unfolding(arguments::specs::Check::verdict))]
 fn check_rate(rate: Option<RateOfTurn>) -> Result<(), Refusal>
     ensures { result ≡ Check.checked (Spec.rate_checks rate) }
 {
@@ -83,6 +77,7 @@ fn check_rate(rate: Option<RateOfTurn>) -> Result<(), Refusal>
 }
 
 // The least alteration, the most, the rate of turn.
+#[tactic(auto, unfolding(crate::specs::Constraints::constraint_checks, arguments::specs::Check::verdict))]
 pub fn check_constraints(c: ManoeuvreConstraints) -> Result<(), Refusal>
     ensures { result ≡ Check.checked (Spec.constraint_checks c) }
 {
@@ -92,6 +87,7 @@ pub fn check_constraints(c: ManoeuvreConstraints) -> Result<(), Refusal>
 
 impl ManoeuvreConstraints {
     // Constraints without a rate of turn, or the number of the first check that fails.
+    #[tactic(auto, unfolding(crate::specs::Constraints::constraints_answer))]
     pub fn new(
         sides: PermittedSides,
         least: Angle,
@@ -109,6 +105,7 @@ impl ManoeuvreConstraints {
     }
 
     // The sign of the rate is ignored.
+    #[tactic(auto, unfolding(crate::specs::Constraints::with_rate_of_turn))]
     pub fn with_rate_of_turn(self, rate: RateOfTurn) -> Result<ManoeuvreConstraints, Refusal>
         ensures { result ≡ Spec.with_rate_of_turn self rate }
     {

@@ -3,7 +3,6 @@
 
 ghost use Rattle.std.specs.Prelude.{◌≡◌};
 ghost use Rattle.text.specs.Text.{shown, appended};
-ghost use Rattle.sheet_record.specs.Record as Record;
 ghost use Rattle.contact_lines.specs.Contacts as Spec;
 
 use colregs::answer::Ruling;
@@ -12,7 +11,7 @@ use motion::units::Direction;
 use policy::CpaPolicy;
 use relative_motion::approach;
 use relative_motion::approach::Approach;
-use sheet_record::{Row, Rows};
+use sheet_record::Row;
 use situation::config::ColregsConfig;
 use situation::party::{Party, Situation, Visibility};
 use text::Text;
@@ -75,12 +74,12 @@ pub fn put_rows(
     visibility: Visibility,
     wind: Option<Direction>,
     policy: CpaPolicy,
-    rows: Rows,
+    rows: &[Row],
 ) -> Text
-    ensures { shown result ≡ appended (shown t0) (Spec.contact_lines own visibility wind policy (Record.rows rows)) }
+    ensures { shown result ≡ appended (shown t0) (Spec.contact_lines own visibility wind policy rows.now) }
 {
     let mut t = t0;
-    for row in &rows.list[..room::held(rows.count)] {
+    for row in rows {
         t = put_row(t, own, visibility, wind, policy, *row);
     }
     t

@@ -23,7 +23,7 @@ use Rattle.best_course.specs.declared.Best.{Best}
 use Rattle.best_course.specs.declared.Choice.{Choice}
 use Rattle.arguments.specs.Check.{zero, verdict, encounter_checks, distance_checks}
 use Rattle.motion.specs.Vessel.{unit, velocity}
-pub use Rattle.best_course.specs.Offers.{smaller, larger}
+pub use Rattle.best_course.specs.Offers.{smaller}
 unfoldable pub use Rattle.best_course.specs.Offers.{offered}
 
 -- 1

@@ -18,6 +18,7 @@ pub struct Avoidance {
 }
 
 // The course that gives a relative speed along `track`, if the speed is one.
+#[tactic(auto, unfolding(crate::specs::Course::at_speed))]
 fn at_speed(
     own_course: f64,
     target: Components,
@@ -40,6 +41,7 @@ fn at_speed(
 }
 
 // The courses, at own speed, whose relative track goes so.
+#[tactic(auto, unfolding(crate::specs::Course::along))]
 fn along(own: Vessel, target: Components, degrees: f64, choice: Choice) -> Choice
     ensures { result ≡ Spec.along own target degrees choice }
 {
@@ -56,7 +58,8 @@ fn along(own: Vessel, target: Components, degrees: f64, choice: Choice) -> Choic
     at_speed(own.course.0, target, track, projection - root, first)
 }
 
-// x, or the nearer end where it is outside -1 to 1.
+// x, or the nearer end where it is outside -1 to 1. Bounds both sides and keeps a NaN: no call of `math::larger`, which bounds one.
+#[tactic(auto, unfolding(crate::specs::Course::clamped))]
 fn clamped(x: f64) -> f64
     ensures { result ≡ Spec.clamped x }
 {
@@ -70,6 +73,7 @@ fn clamped(x: f64) -> f64
 }
 
 // How far, in degrees, the relative track must pass aside of own craft.
+#[tactic(auto, unfolding(crate::specs::Course::grazing))]
 fn grazing(wanted: f64, range: f64) -> f64
     ensures { result ≡ Spec.grazing wanted range }
 {
@@ -77,6 +81,7 @@ fn grazing(wanted: f64, range: f64) -> f64
 }
 
 // The two relative tracks that touch the wanted distance, and the best course of each side for them.
+#[tactic(auto, unfolding(crate::specs::Course::choice_of))]
 fn choice_of(own: Vessel, contact: Contact, target: Vessel, wanted: f64) -> Choice
     ensures { result ≡ Spec.choice_of own contact target wanted }
 {
@@ -101,6 +106,7 @@ fn alteration_to(best: Option<Best>) -> Option<Direction>
     best.map(|kept| Direction(angle::from_degrees_wrapped(kept.course)))
 }
 
+#[tactic(auto, unfolding(crate::specs::Course::avoidance_of))]
 fn avoidance_of(choice: Choice) -> Result<Avoidance, Refusal>
     ensures { result ≡ Spec.avoidance_of choice }
 {
@@ -113,6 +119,7 @@ fn avoidance_of(choice: Choice) -> Result<Avoidance, Refusal>
 }
 
 // With accepted arguments.
+#[tactic(auto, unfolding(crate::specs::Course::course_for))]
 fn course_for(
     own: Vessel,
     contact: Contact,
@@ -131,6 +138,7 @@ fn course_for(
 }
 
 // The courses at own speed that give a closest approach of at least `desired`: the smallest alteration to either side.
+#[tactic(auto, unfolding(crate::specs::Course::course_answer, arguments::specs::Check::encounter_checks, arguments::specs::Check::verdict))]
 pub fn course_for_cpa(
     own: Vessel,
     contact: Contact,

@@ -4,8 +4,9 @@
 ghost use Rattle.std.specs.Prelude.{◌≡◌, [], ◌∷◌};
 ghost use Rattle.colregs.specs.Colregs as Spec;
 
-use colregs::answer::{Decision, Encounter, Responsibility, Rule, Side};
+use colregs::answer::{Decision, Encounter, Responsibility, Rule};
 use facts::{Facts, Windward};
+use motion::side::Side;
 use situation::party::{Tack, VesselCategory, Visibility};
 
 // Rule 12(a)(ii): the windward one keeps out of the way.
@@ -23,68 +24,38 @@ fn by_windward(windward: Windward) -> Responsibility
 fn by_tacks(own: Tack, target: Tack, windward: Windward) -> Responsibility
     ensures { result ≡ Spec.by_tacks own target windward }
 {
-    match own {
-        Tack::Port => match target {
-            Tack::Port => by_windward(windward),
-            Tack::Starboard => Responsibility::GiveWay,
-            Tack::Unknown => Responsibility::Undetermined,
-        },
-        Tack::Starboard => match target {
-            Tack::Port => Responsibility::StandOn,
-            Tack::Starboard => by_windward(windward),
-            Tack::Unknown => Responsibility::Undetermined,
-        },
-        Tack::Unknown => Responsibility::Undetermined,
+    match (own, target) {
+        (Tack::Port, Tack::Starboard) => Responsibility::GiveWay,
+        (Tack::Starboard, Tack::Port) => Responsibility::StandOn,
+        (Tack::Unknown, _) | (_, Tack::Unknown) => Responsibility::Undetermined,
+        _ => by_windward(windward),
     }
 }
 
 // Rules 14, 15 and 17: two vessels of one rank, neither overtaking.
+#[tactic(auto, unfolding(colregs::specs::Colregs::decided))]
 fn by_geometry(e: Encounter) -> Decision
     ensures { result ≡ Spec.decided (Spec.by_geometry e) }
 {
-    match e {
-        Encounter::HeadOn => Decision {
-            responsibility: Responsibility::Both,
-            rule: Rule::Rule14,
-        },
-        Encounter::Crossing { target_on } => match target_on {
-            Side::Starboard => Decision {
-                responsibility: Responsibility::GiveWay,
-                rule: Rule::Rule15,
-            },
-            Side::Port => Decision {
-                responsibility: Responsibility::StandOn,
-                rule: Rule::Rule17,
-            },
-        },
-        Encounter::Overtaking => Decision {
-            responsibility: Responsibility::Undetermined,
-            rule: Rule::Rule13,
-        },
-        Encounter::BeingOvertaken => Decision {
-            responsibility: Responsibility::Undetermined,
-            rule: Rule::Rule13,
-        },
+    let (responsibility, rule) = match e {
+        Encounter::HeadOn => (Responsibility::Both, Rule::Rule14),
+        Encounter::Crossing {
+            target_on: Side::Starboard,
+        } => (Responsibility::GiveWay, Rule::Rule15),
+        Encounter::Crossing {
+            target_on: Side::Port,
+        } => (Responsibility::StandOn, Rule::Rule17),
+        Encounter::Overtaking | Encounter::BeingOvertaken => {
+            (Responsibility::Undetermined, Rule::Rule13)
+        }
+    };
+    Decision {
+        responsibility,
+        rule,
     }
 }
 
-// Rule 12, where own craft sails; `rest` is what the rules after it say.
-fn beside_sailing(own: Tack, target: VesselCategory, windward: Windward, rest: Decision) -> Decision
-    ensures { result ≡ Spec.by_says (Spec.sailing_on own target windward) Rule.Rule12 rest }
-{
-    match target {
-        VesselCategory::Sailing { tack } => Decision {
-            responsibility: by_tacks(own, tack, windward),
-            rule: Rule::Rule12,
-        },
-        VesselCategory::PowerDriven => rest,
-        VesselCategory::Fishing => rest,
-        VesselCategory::ConstrainedByDraught => rest,
-        VesselCategory::RestrictedInAbilityToManoeuvre => rest,
-        VesselCategory::NotUnderCommand => rest,
-    }
-}
-
+// Rule 12, where both sail; `rest` is what the rules after it say.
 fn by_sails(
     own: VesselCategory,
     target: VesselCategory,
@@ -93,13 +64,13 @@ fn by_sails(
 ) -> Decision
     ensures { result ≡ Spec.by_says (Spec.rule12 own target windward) Rule.Rule12 rest }
 {
-    match own {
-        VesselCategory::Sailing { tack } => beside_sailing(tack, target, windward, rest),
-        VesselCategory::PowerDriven => rest,
-        VesselCategory::Fishing => rest,
-        VesselCategory::ConstrainedByDraught => rest,
-        VesselCategory::RestrictedInAbilityToManoeuvre => rest,
-        VesselCategory::NotUnderCommand => rest,
+    match (own, target) {
+        (VesselCategory::Sailing { tack: on }, VesselCategory::Sailing { tack: other }) =>
+            Decision {
+                responsibility: by_tacks(on, other, windward),
+                rule: Rule::Rule12,
+            },
+        _ => rest,
     }
 }
 
@@ -129,6 +100,7 @@ fn by_rank(
     by_sails(own, target, windward, by_geometry(e))
 }
 
+// Rule 13 before the others.
 fn in_sight(
     e: Encounter,
     own: VesselCategory,
@@ -137,37 +109,27 @@ fn in_sight(
 ) -> Decision
     ensures { result ≡ Spec.by_says (Spec.rule13 e) Rule.Rule13 (Spec.decided (Spec.by_rank e own target windward)) }
 {
-    let rest = by_rank(e, own, target, windward);
-    let overtakes = Decision {
-        responsibility: Responsibility::GiveWay,
-        rule: Rule::Rule13,
+    let responsibility = match e {
+        Encounter::Overtaking => Responsibility::GiveWay,
+        Encounter::BeingOvertaken => Responsibility::StandOn,
+        Encounter::HeadOn | Encounter::Crossing { .. } => return by_rank(e, own, target, windward),
     };
-    let overtaken = Decision {
-        responsibility: Responsibility::StandOn,
+    Decision {
+        responsibility,
         rule: Rule::Rule13,
-    };
-    match e {
-        Encounter::Overtaking => overtakes,
-        Encounter::BeingOvertaken => overtaken,
-        Encounter::HeadOn => rest,
-        Encounter::Crossing { target_on } => rest,
     }
 }
 
 // The first rule that speaks.
+#[tactic(auto, unfolding(colregs::specs::Colregs::decided))]
 pub fn decided(e: Encounter, f: Facts) -> Decision
     ensures { result ≡ Spec.decided (Spec.clauses e f) }
 {
-    let own = f.own;
-    let target = f.target;
-    let windward = f.windward;
-    let visibility = f.visibility;
-    let rest = in_sight(e, own, target, windward);
-    match visibility {
+    match f.visibility {
         Visibility::Restricted => Decision {
             responsibility: Responsibility::Both,
             rule: Rule::Rule19,
         },
-        Visibility::InSight => rest,
+        Visibility::InSight => in_sight(e, f.own, f.target, f.windward),
     }
 }

@@ -1,20 +1,21 @@
 // A sheet's record as its bytes: the inverse of reading, for tests and tools. sheet_laws has the round trip, both ways.
 #![tactic(auto)]
 
-ghost use Rattle.std.specs.Prelude.{◌≡◌, ◌≤◌};
+ghost use Rattle.std.specs.Prelude.{◌≡◌, take};
 ghost use Rattle.text.specs.Text.{shown, appended};
-ghost use Rattle.sheet_record.specs.Record as Record;
+ghost use Rattle.room.specs.Room.{max_contacts};
+ghost use Rattle.sheet_words.specs.Word as Words;
 ghost use Rattle.encoding.specs.Encode as Spec;
 
-use sheet_record::{Header, Row, Rows};
+use sheet_record::{Header, Row};
+use sheet_words::Kind;
 use text::Text;
 
 // A word of a kind and a value, as four bytes.
-fn put_word(t: Text, kind: u32, value: u32) -> Text
-    requires { kind ≤ 15 }
-    ensures { shown result ≡ appended (shown t) (Spec.word_bytes (Spec.word kind value)) }
+fn put_word(t: Text, kind: Kind, value: u32) -> Text
+    ensures { shown result ≡ appended (shown t) (Spec.word_bytes (Spec.word (Words.number kind) value)) }
 {
-    let w = kind * 268435456 + value % 268435456;
+    let w = kind.number() * 268435456 + value % 268435456;
     let bytes = [
         (w % 256) as u8,
         (w / 256 % 256) as u8,
@@ -29,7 +30,7 @@ fn put_wind(t: Text, wind: Option<u32>) -> Text
 {
     match wind {
         None => t,
-        Some(n) => put_word(t, 15, n),
+        Some(n) => put_word(t, Kind::Wind, n),
     }
 }
 
@@ -37,52 +38,63 @@ fn put_header(t: Text, h: Header) -> Text
     ensures { shown result ≡ appended (shown t) (Spec.bytes_of (Spec.header_words h)) }
 {
     let t = put_word(
-        put_word(put_word(t, 0, h.course), 1, h.speed),
-        2,
+        put_word(
+            put_word(t, Kind::OwnCourse, h.course),
+            Kind::OwnSpeed,
+            h.speed,
+        ),
+        Kind::OwnCategory,
         h.category,
     );
     let t = put_word(
-        put_word(put_word(t, 3, h.visibility), 4, h.desired),
-        5,
+        put_word(
+            put_word(t, Kind::Visibility, h.visibility),
+            Kind::Desired,
+            h.desired,
+        ),
+        Kind::Least,
         h.least,
     );
     let t = put_word(
-        put_word(put_word(t, 6, h.most), 7, h.cpa_limit),
-        8,
+        put_word(put_word(t, Kind::Most, h.most), Kind::CpaLimit, h.cpa_limit),
+        Kind::TcpaLimit,
         h.tcpa_limit,
     );
-    let wind = h.wind;
-    put_wind(t, wind)
+    put_wind(t, h.wind)
 }
 
 fn put_row(t: Text, row: Row) -> Text
     ensures { shown result ≡ appended (shown t) (Spec.bytes_of (Spec.row_words row)) }
 {
     let t = put_word(
-        put_word(put_word(t, 9, row.id), 10, row.bearing),
-        11,
+        put_word(put_word(t, Kind::Id, row.id), Kind::Bearing, row.bearing),
+        Kind::Range,
         row.range,
     );
     put_word(
-        put_word(put_word(t, 12, row.course), 13, row.speed),
-        14,
+        put_word(
+            put_word(t, Kind::Course, row.course),
+            Kind::Speed,
+            row.speed,
+        ),
+        Kind::Category,
         row.category,
     )
 }
 
-fn put_rows(t0: Text, rows: Rows) -> Text
-    ensures { shown result ≡ appended (shown t0) (Spec.bytes_of (Spec.rows_words (Record.rows rows))) }
+fn put_rows(t0: Text, rows: &[Row]) -> Text
+    ensures { shown result ≡ appended (shown t0) (Spec.bytes_of (Spec.rows_words rows.now)) }
 {
     let mut t = t0;
-    for row in &rows.list[..room::held(rows.count)] {
+    for row in rows {
         t = put_row(t, *row);
     }
     t
 }
 
-// The bytes of a sheet that holds a header and rows; of a value that is too large its low 28 bits.
-pub fn encode(h: Header, rows: Rows) -> Text
-    ensures { shown result ≡ Spec.encode h (Record.rows rows) }
+// The bytes of a sheet that holds a header and rows, MAX_CONTACTS at most; of a value that is too large its low 28 bits.
+pub fn encode(h: Header, rows: &[Row]) -> Text
+    ensures { shown result ≡ Spec.encode h (take max_contacts rows.now) }
 {
-    put_rows(put_header(Text::blank(), h), rows)
+    put_rows(put_header(Text::blank(), h), room::first(rows))
 }

@@ -1,9 +1,9 @@
 -- Assessments as the C exports give them: fourteen words, by their number.
-use Rattle.std.specs.Prelude.{cond, ℕ, eqb, ltb, Float, None, Some, Err, Ok}
+use Rattle.std.specs.Prelude.{cond, ℕ, eqb, ltb, None, Some, Err, Ok}
 use Rattle.words.specs.Words.{pattern}
+pub use Rattle.words.specs.Words.{vessel, contact, distance, elapsed}
 use Rattle.elementary.specs.Refusal.{number_of}
 use Rattle.elementary.specs.declared.error.Refusal.{Refusal}
-use Rattle.time.specs.declared.Duration.{Duration}
 use Rattle.motion.specs.declared.units.Distance.{Distance}
 use Rattle.motion.specs.declared.vessel.Vessel.{Vessel}
 use Rattle.motion.specs.declared.vessel.Contact.{Contact}
@@ -68,18 +68,5 @@ verdict_word (Err why) part = refused_word why part
 
 -- a policy that is refused comes after own craft, the contact and the target
 abbrev pub word_by : Vessel → Contact → Vessel → Result CpaPolicy Refusal → ℕ → ℕ
-word_by own contact target (Ok policy) part = answer_word (assess_answer own contact target policy) part
-word_by own contact target (Err why) part = verdict_word (verdict (encounter_checks own contact target) (Err why)) part
-
--- ---- the arguments
-abbrev pub vessel : Float → Float → Vessel
-vessel course speed = record { course = record { 0 = course }; speed = record { 0 = speed } }
-
-abbrev pub contact : Float → Float → Contact
-contact bearing range = record { bearing = record { 0 = bearing }; range = record { 0 = range } }
-
-abbrev pub distance : Float → Distance
-distance nm = record { 0 = nm }
-
-abbrev pub time : ℕ → ℕ → Duration
-time secs nanos = record { secs = secs; nanos = nanos }
+word_by own seen target (Ok policy) part = answer_word (assess_answer own seen target policy) part
+word_by own seen target (Err why) part = verdict_word (verdict (encounter_checks own seen target) (Err why)) part

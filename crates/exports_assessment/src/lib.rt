@@ -2,7 +2,8 @@
 // Word 0 is the refusal's number, or 0 where there is an assessment; the others are 0 where it is refused. Floats are bit patterns.
 //
 // From 1 on: relative course and speed, bearing drift; whether there is a closest approach, its distance and bearing, its time's
-// seconds and nanoseconds; whether there is a bow crossing, its distance; the risk's rank; range and bearing.
+// seconds and nanoseconds; whether there is a bow crossing, its distance; the risk's rank; range and bearing. Each is worked out by itself:
+// a list of all fourteen would be no shorter, since the parts of what may be missing would be taken out of lists of their own.
 #![tactic(auto)]
 
 ghost use Rattle.std.specs.Prelude.{◌≡◌};
@@ -45,10 +46,7 @@ fn cpa_word(cpa: Cpa, part: u32) -> u64
 fn nearest_word(p: Option<Cpa>, part: u32) -> u64
     ensures { result ≡ Spec.nearest_word p part }
 {
-    match p {
-        None => 0,
-        Some(cpa) => cpa_word(cpa, part),
-    }
+    p.map_or(0, |cpa| cpa_word(cpa, part))
 }
 
 #[tactic(auto, unfolding(crate::specs::Words::distance_word))]
@@ -64,10 +62,7 @@ fn distance_word(d: Distance, part: u32) -> u64
 fn crossing_word(p: Option<Distance>, part: u32) -> u64
     ensures { result ≡ Spec.crossing_word p part }
 {
-    match p {
-        None => 0,
-        Some(d) => distance_word(d, part),
-    }
+    p.map_or(0, |d| distance_word(d, part))
 }
 
 #[tactic(auto, unfolding(crate::specs::Words::contact_word))]
@@ -157,7 +152,7 @@ pub extern "C" fn avoidance_assess(
     secs: u64,
     nanos: u32,
 ) -> u64
-    ensures { result ≡ Spec.word_by (Spec.vessel oc os) (Spec.contact bearing range) (Spec.vessel tc ts) (Policy.policy_answer (Spec.distance limit) (Spec.time secs nanos)) part }
+    ensures { result ≡ Spec.word_by (Spec.vessel oc os) (Spec.contact bearing range) (Spec.vessel tc ts) (Policy.policy_answer (Spec.distance limit) (Spec.elapsed secs nanos)) part }
 {
     let latest = Duration { secs, nanos };
     word_by(

@@ -4,39 +4,34 @@
 // the limiting contact's place and one, 0 for nobody. Floats are bit patterns.
 #![tactic(auto)]
 
-ghost use Rattle.std.specs.Prelude.{◌≡◌, get_or};
+ghost use Rattle.std.specs.Prelude.{◌≡◌, get_or, length, min};
+ghost use Rattle.room.specs.Room.{max_contacts};
+ghost use Rattle.rulings.specs.Ruled as Rulings;
 ghost use Rattle.exports_avoidance.specs.Words as Spec;
 
 use avoidance_codes::{constraints_of, permitted_sides, traffic_of};
 use avoidance_words::{limiting_word, side_word, turned};
-use choice::{Chosen, Sides};
+use choice::{Chosen, Search, Sides};
+use constraints::ManoeuvreConstraints;
 use elementary::error::Refusal;
 use manoeuvre::AvoidanceManoeuvre;
-use motion::units::Distance;
+use motion::units::{Direction, Distance};
 use rulings::RuledManoeuvre;
-use traffic::Traffic;
-use words::pattern;
+use situation::party::{Party, Visibility};
+use traffic::Entry;
+use words::{pattern, refused, word_or};
 
 // ---- answers as words
-fn refused(why: Refusal) -> [u64; 9]
-    ensures { result ≡ Spec.refused why }
-{
-    [why.number() as u64, 0, 0, 0, 0, 0, 0, 0, 0]
-}
-
 fn avoid_words(answer: Result<AvoidanceManoeuvre, Refusal>) -> [u64; 9]
     ensures { result ≡ Spec.avoid_words answer }
 {
     match answer {
         Ok(m) => {
-            let size = m.alteration();
-            let course = m.course();
-            let passing = m.least_passing();
             turned(
                 side_word(m.side()),
-                pattern(size.0),
-                pattern(course.0),
-                pattern(passing.0),
+                pattern(m.alteration().0),
+                pattern(m.course().0),
+                pattern(m.least_passing().0),
                 m.turn_time(),
                 limiting_word(m.limiting()),
             )
@@ -85,6 +80,23 @@ fn search_words(choice: Option<Chosen>) -> [u64; 9]
     }
 }
 
+// The ruled search on so many contacts, of which the traffic has those that there is room for.
+fn ruled_on(
+    count: usize,
+    own: Party,
+    t: &[Entry],
+    visibility: Visibility,
+    wind: Option<Direction>,
+    desired: Distance,
+    c: ManoeuvreConstraints,
+) -> Result<RuledManoeuvre, Refusal>
+    requires { length t.now ≡ min count max_contacts }
+    ensures { result ≡ Rulings.ruled_answer own count t.now visibility wind desired c }
+{
+    traffic::check_count(count)?;
+    ruled::ruled_search(own, t, visibility, wind, desired, c)
+}
+
 // ---- the exports
 #[unsafe(no_mangle)]
 pub extern "C" fn avoidance_avoid(
@@ -104,19 +116,17 @@ pub extern "C" fn avoidance_avoid(
 ) -> u64
     ensures { result ≡ get_or (Spec.avoid_with (Spec.constraints_of sides least most known rate) oc os bearing range tc ts desired) part 0 }
 {
-    match constraints_of(sides, least, most, known, rate) {
-        Ok(c) => codes::word_at(
-            avoid_words(avoid::avoid(
-                words::vessel(oc, os),
-                words::contact(bearing, range),
-                words::vessel(tc, ts),
-                Distance(desired),
-                c,
-            )),
-            part,
-        ),
-        Err(why) => codes::word_at(refused(why), part),
-    }
+    let words = match constraints_of(sides, least, most, known, rate) {
+        Ok(c) => avoid_words(avoid::avoid(
+            words::vessel(oc, os),
+            words::contact(bearing, range),
+            words::vessel(tc, ts),
+            Distance(desired),
+            c,
+        )),
+        Err(why) => refused(why),
+    };
+    word_or(&words, part, 0)
 }
 
 // `floats` has own course and speed, desired, least and most, then bearing, range, course and speed of each contact.
@@ -125,10 +135,13 @@ pub extern "C" fn avoidance_search(part: u32, sides: u32, count: usize, floats: 
     ensures { result ≡ get_or (Spec.search_words (Spec.search_of sides count floats.now)) part 0 }
 {
     let may = permitted_sides(sides);
-    let found = choice::smallest(
-        words::vessel(codes::float_at(floats, 0), codes::float_at(floats, 1)),
-        traffic::scene_of(traffic_of(false, count, floats)),
-        codes::float_at(floats, 2) - 1e-9,
+    let scene = traffic::scene_of(&traffic_of(false, count, floats));
+    let search = Search {
+        own: words::vessel(codes::float_at(floats, 0), codes::float_at(floats, 1)),
+        scene: &scene,
+        floor: codes::float_at(floats, 2) - 1e-9,
+    };
+    let found = search.smallest(
         Sides {
             starboard: may.starboard(),
             port: may.port(),
@@ -136,7 +149,7 @@ pub extern "C" fn avoidance_search(part: u32, sides: u32, count: usize, floats: 
         codes::float_at(floats, 3),
         codes::float_at(floats, 4),
     );
-    codes::word_at(search_words(found), part)
+    word_or(&search_words(found), part, 0)
 }
 
 // `codes`, from the low bits: own category (three), and one each for visibility, own heading, the wind and the rate of turn. `floats` has
@@ -148,24 +161,23 @@ pub extern "C" fn avoidance_ruled(part: u32, codes: u32, count: usize, floats: &
     let known = codes / 64 % 2;
     let least = codes::float_at(floats, 5);
     let most = codes::float_at(floats, 6);
-    match constraints_of(0, least, most, known, codes::float_at(floats, 7)) {
-        Ok(c) => codes::word_at(
-            ruled_words(ruled::ruled_search(
-                codes::party(
-                    codes % 8,
-                    codes / 16 % 2,
-                    codes::float_at(floats, 0),
-                    codes::float_at(floats, 1),
-                    codes::float_at(floats, 2),
-                ),
-                traffic_of(true, count, floats),
-                codes::visibility(codes / 8 % 2),
-                codes::perhaps(codes / 32 % 2, codes::float_at(floats, 3)),
-                Distance(codes::float_at(floats, 4)),
-                c,
-            )),
-            part,
-        ),
-        Err(why) => codes::word_at(refused(why), part),
-    }
+    let words = match constraints_of(0, least, most, known, codes::float_at(floats, 7)) {
+        Ok(c) => ruled_words(ruled_on(
+            count,
+            codes::party(
+                codes % 8,
+                codes / 16 % 2,
+                codes::float_at(floats, 0),
+                codes::float_at(floats, 1),
+                codes::float_at(floats, 2),
+            ),
+            &traffic_of(true, count, floats),
+            Visibility::from(codes / 8 % 2),
+            codes::perhaps(codes / 32 % 2, codes::float_at(floats, 3)),
+            Distance(codes::float_at(floats, 4)),
+            c,
+        )),
+        Err(why) => refused(why),
+    };
+    word_or(&words, part, 0)
 }

@@ -14,28 +14,28 @@ use elementary::error::Refusal;
 use motion::units::{Direction, Distance};
 use plot::TargetSolution;
 use time::Duration;
-use words::Words;
+use words::{pattern, refused};
 
 // ---- the target's course and speed, its relative course and speed, and the aspect
-fn solved(s: TargetSolution) -> Words
+fn solved(s: TargetSolution) -> [u64; 6]
     ensures { result ≡ Spec.solved s }
 {
-    Words {
-        number: 0,
-        first: words::pattern(s.vessel.course.0),
-        second: words::pattern(s.vessel.speed.0),
-        third: words::pattern(s.relative_course.0),
-        fourth: words::pattern(s.relative_speed.0),
-        fifth: words::pattern(s.aspect.0),
-    }
+    [
+        0,
+        pattern(s.vessel.course.0),
+        pattern(s.vessel.speed.0),
+        pattern(s.relative_course.0),
+        pattern(s.relative_speed.0),
+        pattern(s.aspect.0),
+    ]
 }
 
-fn plot_words(answer: Result<TargetSolution, Refusal>) -> Words
+fn plot_words(answer: Result<TargetSolution, Refusal>) -> [u64; 6]
     ensures { result ≡ Spec.plot_words answer }
 {
     match answer {
         Ok(s) => solved(s),
-        Err(why) => words::refused(why),
+        Err(why) => refused(why),
     }
 }
 
@@ -43,40 +43,34 @@ fn plot_words(answer: Result<TargetSolution, Refusal>) -> Words
 fn presence(a: Option<Direction>) -> u64
     ensures { result ≡ Spec.presence a }
 {
-    match a {
-        None => 0,
-        Some(_) => 1,
-    }
+    u64::from(a.is_some())
 }
 
 fn course(a: Option<Direction>) -> u64
     ensures { result ≡ Spec.course a }
 {
-    match a {
-        None => 0,
-        Some(d) => words::pattern(d.0),
-    }
+    a.map_or(0, |d| pattern(d.0))
 }
 
-fn altered(a: Avoidance) -> Words
+fn altered(a: Avoidance) -> [u64; 6]
     ensures { result ≡ Spec.altered a }
 {
-    Words {
-        number: 0,
-        first: presence(a.starboard),
-        second: course(a.starboard),
-        third: presence(a.port),
-        fourth: course(a.port),
-        fifth: 0,
-    }
+    [
+        0,
+        presence(a.starboard),
+        course(a.starboard),
+        presence(a.port),
+        course(a.port),
+        0,
+    ]
 }
 
-fn course_words(answer: Result<Avoidance, Refusal>) -> Words
+fn course_words(answer: Result<Avoidance, Refusal>) -> [u64; 6]
     ensures { result ≡ Spec.course_words answer }
 {
     match answer {
         Ok(a) => altered(a),
-        Err(why) => words::refused(why),
+        Err(why) => refused(why),
     }
 }
 
@@ -95,7 +89,7 @@ pub extern "C" fn motion_course(
     ensures { result ≡ Shared.word (Spec.course_words (Course.course_answer (Shared.vessel oc os) (Shared.contact bearing range) (Shared.vessel tc ts) (Shared.distance desired))) part }
 {
     words::word(
-        course_words(course::course_for_cpa(
+        &course_words(course::course_for_cpa(
             words::vessel(oc, os),
             words::contact(bearing, range),
             words::vessel(tc, ts),
@@ -121,7 +115,7 @@ pub extern "C" fn motion_plot(
 {
     let elapsed = Duration { secs, nanos };
     words::word(
-        plot_words(plot::target_from_plot(
+        &plot_words(plot::target_from_plot(
             words::vessel(oc, os),
             words::contact(b1, r1),
             words::contact(b2, r2),

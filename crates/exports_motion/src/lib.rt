@@ -23,7 +23,7 @@ pub extern "C" fn motion_cpa(
     ensures { result ≡ Shared.word (Spec.cpa_words (Motion.cpa_answer (Shared.vessel oc os) (Shared.contact bearing range) (Shared.vessel tc ts))) part }
 {
     words::word(
-        cpa_words(relative_motion::approach::closest_point_of_approach(
+        &cpa_words(relative_motion::approach::closest_point_of_approach(
             words::vessel(oc, os),
             words::contact(bearing, range),
             words::vessel(tc, ts),
@@ -45,7 +45,7 @@ pub extern "C" fn motion_passing(
     ensures { result ≡ Shared.word (Spec.passing_words (Motion.passing_answer (Shared.vessel oc os) (Shared.contact bearing range) (Shared.vessel tc ts))) part }
 {
     words::word(
-        passing_words(relative_motion::approach::passing(
+        &passing_words(relative_motion::approach::passing(
             words::vessel(oc, os),
             words::contact(bearing, range),
             words::vessel(tc, ts),
@@ -59,7 +59,7 @@ pub extern "C" fn motion_bearing(part: u32, oc: f64, os: f64, bearing: f64, rang
     ensures { result ≡ Shared.word (Spec.bearing_words (Motion.bearing_answer (Shared.vessel oc os) (Shared.contact bearing range))) part }
 {
     words::word(
-        bearing_words(relative_motion::approach::relative_bearing_of(
+        &bearing_words(relative_motion::approach::relative_bearing_of(
             words::vessel(oc, os),
             words::contact(bearing, range),
         )),
@@ -80,7 +80,7 @@ pub extern "C" fn motion_bow(
     ensures { result ≡ Shared.word (Spec.bow_words (Bow.bow_answer (Shared.vessel oc os) (Shared.contact bearing range) (Shared.vessel tc ts))) part }
 {
     words::word(
-        bow_words(bow::bow_crossing_range(
+        &bow_words(bow::bow_crossing_range(
             words::vessel(oc, os),
             words::contact(bearing, range),
             words::vessel(tc, ts),

@@ -25,7 +25,6 @@ pub extern "C" fn encounter_report(sheet: &[u8], out: &mut [u8]) -> usize
     if n > out.len() {
         return 0;
     }
-    let bytes = t.bytes;
-    copy(&bytes[..n], out);
+    copy(&t.bytes[..n], out);
     n
 }

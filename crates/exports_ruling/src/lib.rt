@@ -13,9 +13,10 @@ ghost use Rattle.exports_ruling.specs.Words as Spec;
 
 use codes::category;
 use motion::units::Angle;
-use ruling_words::{ruling_words, word};
+use ruling_words::ruling_words;
 use situation::config::ColregsConfig;
 use situation_codes::situation;
+use words::word;
 
 #[unsafe(no_mangle)]
 pub extern "C" fn colregs_ruling(
@@ -40,7 +41,7 @@ pub extern "C" fn colregs_ruling(
         head_on_half_width: Angle(width),
     };
     word(
-        ruling_words(ruling::rule_of_the_road(
+        &ruling_words(ruling::rule_of_the_road(
             situation(codes, oc, os, oh, bearing, range, tc, ts, th, wind),
             config,
         )),

@@ -22,19 +22,13 @@ fn kind_in(t: Result<Duration, TimeError>) -> u32
 fn secs_in(t: Result<Duration, TimeError>) -> u64
     ensures { result ≡ secs_of t }
 {
-    match t {
-        Ok(d) => d.secs,
-        Err(_) => 0,
-    }
+    t.map_or(0, |d| d.secs)
 }
 
 fn nanos_in(t: Result<Duration, TimeError>) -> u32
     ensures { result ≡ nanos_of t }
 {
-    match t {
-        Ok(d) => d.nanos,
-        Err(_) => 0,
-    }
+    t.map_or(0, |d| d.nanos)
 }
 
 #[unsafe(no_mangle)]

@@ -4,6 +4,7 @@ use Rattle.std.specs.Float.Ieee.{lt}
 use Rattle.laws.specs.Ops.{◌⊕◌, ◌⊖◌, ◌⊗◌}
 use Rattle.math.specs.Sign.{abs}
 use Rattle.math.specs.Test.{is_effectively_zero}
+unfoldable pub use Rattle.math.specs.Test.{larger}
 use Rattle.angle.specs.Fold.{zero, half_turn, half_fold}
 use Rattle.root.specs.Hypot.{hypot}
 use Rattle.motion.specs.declared.units.Direction.{Direction}
@@ -11,12 +12,9 @@ use Rattle.motion.specs.declared.vessel.Vessel.{Vessel}
 use Rattle.motion.specs.declared.vessel.Contact.{Contact}
 use Rattle.motion.specs.declared.vessel.Components.{Components}
 use Rattle.motion.specs.Vessel.{unit, velocity}
-use Rattle.situation.specs.declared.party.VesselCategory.{VesselCategory}
 use Rattle.std.specs.declared.option.Option.{Option}
-use Rattle.situation.specs.declared.party.Visibility.{Visibility}
 use Rattle.situation.specs.declared.party.Situation.{Situation}
 use Rattle.facts.specs.declared.Windward.{Windward}
-use Rattle.facts.specs.declared.Windward.TheVariants as Windward
 use Rattle.facts.specs.declared.Facts.{Facts}
 use Rattle.situation.specs.Situation.{heading}
 use Rattle.situation.specs.Arguments.{quarter_turn}
@@ -28,10 +26,6 @@ relative_of contact own_heading = half_fold (contact.bearing.0 ⊖ own_heading.0
 -- own craft off the target's bow, positive to the target's starboard
 unfoldable pub aspect_of : Contact → Direction → Float
 aspect_of contact target_heading = half_fold (contact.bearing.0 ⊕ half_turn ⊖ target_heading.0)
-
--- `f64::max` of two numbers
-unfoldable pub larger : Float → Float → Float
-larger a b = cond (lt a b) b a
 
 unfoldable pub speed_of : Components → Float
 speed_of v = hypot v.north v.east

@@ -31,27 +31,21 @@ pub struct Facts {
     pub visibility: Visibility,
 }
 
+#[tactic(auto, unfolding(crate::specs::Facts::relative_of))]
 fn relative_of(contact: Contact, heading: Direction) -> f64
     ensures { result ≡ Spec.relative_of contact heading }
 {
     angle::wrap180(contact.bearing.0 - heading.0)
 }
 
+#[tactic(auto, unfolding(crate::specs::Facts::aspect_of))]
 fn aspect_of(contact: Contact, heading: Direction) -> f64
     ensures { result ≡ Spec.aspect_of contact heading }
 {
     angle::wrap180(contact.bearing.0 + 180.0 - heading.0)
 }
 
-fn larger(a: f64, b: f64) -> f64
-    ensures { result ≡ Spec.larger a b }
-{
-    if a < b {
-        return b;
-    }
-    a
-}
-
+#[tactic(auto, unfolding(crate::specs::Facts::speed_of))]
 fn speed_of(v: Components) -> f64
     ensures { result ≡ Spec.speed_of v }
 {
@@ -59,6 +53,7 @@ fn speed_of(v: Components) -> f64
 }
 
 // How fast the range grows along a line of sight.
+#[tactic(auto, unfolding(crate::specs::Facts::range_rate))]
 fn range_rate(line: Components, own: Components, target: Components) -> f64
     ensures { result ≡ Spec.range_rate line own target }
 {
@@ -66,6 +61,7 @@ fn range_rate(line: Components, own: Components, target: Components) -> f64
 }
 
 // Whether the range closes; a rate within rounding of zero is neither closing nor opening.
+#[tactic(auto, unfolding(crate::specs::Facts::is_closing))]
 pub fn is_closing(contact: Contact, own: Vessel, target: Vessel) -> bool
     ensures { result ≡ Spec.is_closing contact own target }
 {
@@ -73,7 +69,7 @@ pub fn is_closing(contact: Contact, own: Vessel, target: Vessel) -> bool
     let own_velocity = own.velocity();
     let target_velocity = target.velocity();
     let rate = range_rate(line, own_velocity, target_velocity);
-    let scale = larger(speed_of(own_velocity), speed_of(target_velocity));
+    let scale = math::larger(speed_of(own_velocity), speed_of(target_velocity));
     let tangential = math::is_effectively_zero(rate, scale);
     rate < 0.0 && !tangential
 }
@@ -95,25 +91,19 @@ fn windward_of(contact: Contact, wind: Option<Direction>) -> Windward
 }
 
 // The facts of a situation, from the bearing, the headings and the velocities.
+#[tactic(auto, unfolding(crate::specs::Facts::facts_of))]
 pub fn facts_of(s: Situation) -> Facts
     ensures { result ≡ Spec.facts_of s }
 {
-    let own = s.own;
-    let target = s.target;
-    let contact = s.contact;
-    let relative = relative_of(contact, own.heading());
-    let aspect = aspect_of(contact, target.heading());
-    let closing = is_closing(contact, own.motion, target.motion);
-    let windward = windward_of(contact, s.wind_from);
     Facts {
-        relative,
-        aspect,
-        closing,
-        own_speed: own.motion.speed,
-        target_speed: target.motion.speed,
-        own: own.category,
-        target: target.category,
-        windward,
+        relative: relative_of(s.contact, s.own.heading()),
+        aspect: aspect_of(s.contact, s.target.heading()),
+        closing: is_closing(s.contact, s.own.motion, s.target.motion),
+        own_speed: s.own.motion.speed,
+        target_speed: s.target.motion.speed,
+        own: s.own.category,
+        target: s.target.category,
+        windward: windward_of(s.contact, s.wind_from),
         visibility: s.visibility,
     }
 }

@@ -18,12 +18,11 @@ use Rattle.relative_motion.specs.declared.approach.Approach.{Approach}
 use Rattle.risk.specs.declared.CollisionRisk.{CollisionRisk}
 use Rattle.risk.specs.declared.CollisionRisk.TheVariants as Risk
 use Rattle.colregs.specs.declared.answer.Ruling.{Ruling}
-use Rattle.colregs.specs.declared.answer.Side.TheVariants as Tack
 use Rattle.colregs.specs.declared.answer.Encounter.{Encounter}
 use Rattle.colregs.specs.declared.answer.Responsibility.{Responsibility}
 use Rattle.colregs.specs.declared.answer.Rule.{Rule}
 use Rattle.colregs.specs.Ruling.{rule_number}
-use Rattle.manoeuvre.specs.declared.Side.{Side as Turn}
+use Rattle.motion.specs.declared.side.Side.{Side}
 use Rattle.std.specs.declared.option.Option.{Option}
 use Rattle.rulings.specs.declared.RuledManoeuvre.{RuledManoeuvre}
 use Rattle.lines.specs.Lines.{contact_line, side_field, passing_field, limiting_field, alter_line, refused_line}
@@ -55,8 +54,8 @@ unfolding bytes
 encounter_short Encounter.Overtaking = lit≤ tt
 encounter_short Encounter.BeingOvertaken = lit≤ tt
 encounter_short Encounter.HeadOn = lit≤ tt
-encounter_short (Encounter.Crossing Tack.Starboard) = lit≤ tt
-encounter_short (Encounter.Crossing Tack.Port) = lit≤ tt
+encounter_short (Encounter.Crossing Side.Starboard) = lit≤ tt
+encounter_short (Encounter.Crossing Side.Port) = lit≤ tt
 
 responsibility_short : (d : Responsibility) → length (responsibility_field d) ≤ 12
 unfolding bytes
@@ -79,10 +78,10 @@ pub contact_short : (id : ℕ) (a : Approach) (k : CollisionRisk) (g : Ruling) �
 unfolding contact_line bytes
 contact_short id a k g = simp length-append (omega (arith, decimal_short id, approach_short a, quantity_short (distance_of a).0, seconds_short a, risk_short k, encounter_short g.encounter, responsibility_short g.responsibility, rule_short g.rule))
 
-side_short : (s : Turn) → length (side_field s) ≤ 1
+side_short : (s : Side) → length (side_field s) ≤ 1
 unfolding bytes
-side_short Turn.Starboard = lit≤ tt
-side_short Turn.Port = lit≤ tt
+side_short Side.Starboard = lit≤ tt
+side_short Side.Port = lit≤ tt
 
 passing_short : (l : Option ℕ) (d : Distance) → length (passing_field l d) ≤ 24
 unfolding bytes

@@ -5,14 +5,9 @@
 ghost use Rattle.std.specs.Prelude.{◌≡◌};
 ghost use Rattle.manoeuvre.specs.Manoeuvre as Spec;
 
+use motion::side::Side;
 use motion::units::{Angle, Direction, Distance, RateOfTurn};
 use time::Duration;
-
-#[derive(Clone, Copy)]
-pub enum Side {
-    Starboard,
-    Port,
-}
 
 // The alteration is positive to starboard.
 #[derive(Clone, Copy)]
@@ -25,6 +20,7 @@ pub struct AvoidanceManoeuvre {
 }
 
 // The time that a turn of a magnitude in degrees takes at a rate; none without a rate, or where it is too long.
+#[tactic(auto, unfolding(crate::specs::Manoeuvre::turned))]
 pub fn turn_time(magnitude: f64, rate: Option<RateOfTurn>) -> Option<Duration>
     ensures { result ≡ Spec.turn_time magnitude rate }
 {
@@ -34,6 +30,7 @@ pub fn turn_time(magnitude: f64, rate: Option<RateOfTurn>) -> Option<Duration>
 
 impl AvoidanceManoeuvre {
     // A manoeuvre of its parts.
+    #[tactic(auto, unfolding(crate::specs::Manoeuvre::manoeuvre))]
     pub fn new(
         course: Direction,
         alteration: Angle,
@@ -67,13 +64,15 @@ impl AvoidanceManoeuvre {
     }
 
     // Port for a negative alteration, starboard for any other.
+    #[tactic(auto, unfolding(crate::specs::Manoeuvre::side_of))]
     pub fn side(self) -> Side
         ensures { result ≡ Spec.side_of self.alteration }
     {
         if self.alteration.0 < 0.0 {
-            return Side::Port;
+            Side::Port
+        } else {
+            Side::Starboard
         }
-        Side::Starboard
     }
 
     // The time that the turn takes.

@@ -81,6 +81,14 @@ pub fn is_effectively_zero(value: f64, scale: f64) -> bool
     abs(value) <= abs(scale) * RELATIVE_TOLERANCE
 }
 
+// The larger of two values; `a` where one of them is no number.
+#[tactic(auto, unfolding(crate::specs::Test::larger))]
+pub fn larger(a: f64, b: f64) -> f64
+    ensures { result ≡ Test.larger a b }
+{
+    if a < b { b } else { a }
+}
+
 // The whole part of a value from 0 to 10^9, and 0 for any other.
 pub fn to_usize(value: f64) -> usize
     ensures { result ≡ Cast.to_usize value }
@@ -111,7 +119,8 @@ pub fn power_of_two(k: u64) -> u64
 // n times a unit that is a power of two below one, with the sign set or not: exactly, for an n of
 // at most 2^53, and 0 for a larger one.
 pub fn multiple(minus: bool, n: u64, unit: f64) -> f64
-    ensures { (i : ℕ) → n ≤ 2 ^ 53 → unit ≡ fin false 1 (negsuc i) → result ≡ Ieee.round binary64 minus n (2 ^ suc i) }
+    ensures product { (i : ℕ) → n ≤ 2 ^ 53 → unit ≡ fin false 1 (negsuc i) → result ≡ Ieee.round binary64 minus n (2 ^ suc i) }
+    ensures none { 2 ^ 53 < n → result ≡ Ieee.of_bits binary64 0 }
 {
     if n > 2 * LEADING {
         return 0.0;

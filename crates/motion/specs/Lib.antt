@@ -1,2 +1,3 @@
 -- Vessels and contacts.
+pub mod Held
 pub mod Vessel

@@ -4,5 +4,6 @@
 // operation by operation.
 #![tactic(auto)]
 
+pub mod side;
 pub mod units;
 pub mod vessel;

@@ -1,11 +1,11 @@
 // Quantities with their units, so that a figure in knots never stands for one in nautical miles.
 
 // Nautical miles.
-#[derive(Clone, Copy)]
+#[derive(Clone, Copy, Default)]
 pub struct Distance(pub f64);
 
 // Knots.
-#[derive(Clone, Copy)]
+#[derive(Clone, Copy, Default)]
 pub struct Speed(pub f64);
 
 // Degrees, of a turn or a difference of directions.
@@ -13,7 +13,7 @@ pub struct Speed(pub f64);
 pub struct Angle(pub f64);
 
 // A true course, heading or bearing: degrees clockwise from north.
-#[derive(Clone, Copy)]
+#[derive(Clone, Copy, Default)]
 pub struct Direction(pub f64);
 
 // A bearing from own bow: degrees clockwise.

@@ -5,27 +5,28 @@ ghost use Rattle.motion.specs.Vessel as Spec;
 use crate::units::{Direction, Distance, Speed};
 
 // Course and speed of a vessel.
-#[derive(Clone, Copy)]
+#[derive(Clone, Copy, Default)]
 pub struct Vessel {
     pub course: Direction,
     pub speed: Speed,
 }
 
 // Where a contact is, from own craft.
-#[derive(Clone, Copy)]
+#[derive(Clone, Copy, Default)]
 pub struct Contact {
     pub bearing: Direction,
     pub range: Distance,
 }
 
 // North and east parts: of a velocity in knots, of an offset in nautical miles.
-#[derive(Clone, Copy)]
+#[derive(Clone, Copy, Default)]
 pub struct Components {
     pub north: f64,
     pub east: f64,
 }
 
 // One, in a direction of so many degrees.
+#[tactic(auto, unfolding(crate::specs::Vessel::unit))]
 pub fn unit(degrees: f64) -> Components
     ensures { result ≡ Spec.unit degrees }
 {
@@ -37,6 +38,7 @@ pub fn unit(degrees: f64) -> Components
 }
 
 // `size` in a direction.
+#[tactic(auto, unfolding(crate::specs::Vessel::resolved))]
 fn resolved(size: f64, direction: Direction) -> Components
     ensures { result ≡ Spec.resolved size direction }
 {
@@ -48,6 +50,7 @@ fn resolved(size: f64, direction: Direction) -> Components
 }
 
 // The direction of a velocity or an offset.
+#[tactic(auto, unfolding(crate::specs::Vessel::direction_of))]
 pub fn direction_of(c: Components) -> Direction
     ensures { result ≡ Spec.direction_of c }
 {
@@ -56,6 +59,7 @@ pub fn direction_of(c: Components) -> Direction
 
 impl Vessel {
     // Knots north and east.
+    #[tactic(auto, unfolding(crate::specs::Vessel::velocity))]
     pub fn velocity(self) -> Components
         ensures { result ≡ Spec.velocity self }
     {
@@ -63,6 +67,7 @@ impl Vessel {
     }
 
     // The vessel that moves so.
+    #[tactic(auto, unfolding(crate::specs::Vessel::from_velocity))]
     pub fn from_velocity(velocity: Components) -> Vessel
         ensures { result ≡ Spec.from_velocity velocity }
     {
@@ -75,6 +80,7 @@ impl Vessel {
 
 impl Contact {
     // Nautical miles north and east.
+    #[tactic(auto, unfolding(crate::specs::Vessel::offset))]
     pub fn offset(self) -> Components
         ensures { result ≡ Spec.offset self }
     {
@@ -83,6 +89,7 @@ impl Contact {
 }
 
 // a less b.
+#[tactic(auto, unfolding(crate::specs::Vessel::difference))]
 pub fn difference(a: Components, b: Components) -> Components
     ensures { result ≡ Spec.difference a b }
 {
@@ -93,10 +100,9 @@ pub fn difference(a: Components, b: Components) -> Components
 }
 
 // The target's velocity as seen from own craft.
+#[tactic(auto, unfolding(crate::specs::Vessel::relative_velocity))]
 pub fn relative_velocity(own: Vessel, target: Vessel) -> Components
     ensures { result ≡ Spec.relative_velocity own target }
 {
-    let own_velocity = own.velocity();
-    let target_velocity = target.velocity();
-    difference(target_velocity, own_velocity)
+    difference(target.velocity(), own.velocity())
 }

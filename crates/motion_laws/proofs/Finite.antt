@@ -33,6 +33,7 @@ use Rattle.root.proofs.HypotSize.{in-hypot-domain, hypotenuse, hypot-small, hypo
 use mathlib.Core.List.{◌++◌}
 use Rattle.math.specs.Convert.{to_degrees}
 use Rattle.math.specs.Sign.{abs}
+use Rattle.math.specs.Test.{larger}
 use Rattle.math.proofs.Sign.{abs-fits, abs-units, units_of-abs}
 use Rattle.elementary.specs.declared.error.Refusal.TheVariants as Why
 use Rattle.bow.specs.Bow.{parallel, tolerance, not_negative, determinant, crossing, bow_by, bow_answer}
@@ -324,7 +325,7 @@ bearing_finite own contact ho hc = go (verdict (vessel_checks own ++ contact_che
 
 -- ---- the bow crossing
 cleared : (x : Float) → T (finite x) → T (finite (not_negative x))
-unfolding not_negative
+unfolding larger
 cleared x f = go (lt Check.zero x)
   where
     go : (b : Bool) → T (finite (cond b x Check.zero))

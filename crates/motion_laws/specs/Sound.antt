@@ -23,17 +23,9 @@ use Rattle.motion.specs.declared.vessel.Components.{Components}
 use Rattle.relative_motion.specs.declared.approach.Approach.{Approach}
 use Rattle.plot.specs.declared.TargetSolution.{TargetSolution}
 use Rattle.arguments.specs.Check.{zero, Check}
+pub use Rattle.motion.specs.Held.{HeldVessel, HeldContact}
 use Rattle.motion.specs.Vessel.{offset, relative_velocity}
 use Rattle.relative_motion.specs.Approach.{stationary_knots, relative_speed, time_of, closest}
-
--- the arguments are f64s
-pub record HeldVessel (v : Vessel) : Type 0 where
-  pub course : T (fits binary64 v.course.0)
-  pub speed : T (fits binary64 v.speed.0)
-
-pub record HeldContact (c : Contact) : Type 0 where
-  pub bearing : T (fits binary64 c.bearing.0)
-  pub range : T (fits binary64 c.range.0)
 
 -- every check is good
 abbrev pub AllGood : List Check → Type 0

@@ -8,37 +8,29 @@ ghost use Rattle.motion_words.specs.Words as Spec;
 use elementary::error::Refusal;
 use motion::units::{Distance, RelativeBearing};
 use relative_motion::approach::{Approach, Cpa, Pass};
-use words::Words;
+use words::{pattern, refused};
 
 // ---- the approach: its kind (0 closing, 1 opening, 2 stationary), distance, and where it closes bearing and time
-fn closing(cpa: Cpa) -> Words
+fn closing(cpa: Cpa) -> [u64; 6]
     ensures { result ≡ Spec.closing cpa }
 {
-    let to_go = cpa.time_to_go;
-    Words {
-        number: 0,
-        first: 0,
-        second: words::pattern(cpa.distance.0),
-        third: words::pattern(cpa.bearing.0),
-        fourth: to_go.secs,
-        fifth: to_go.nanos as u64,
-    }
+    [
+        0,
+        0,
+        pattern(cpa.distance.0),
+        pattern(cpa.bearing.0),
+        cpa.time_to_go.secs,
+        cpa.time_to_go.nanos as u64,
+    ]
 }
 
-fn passed(kind: u64, distance: Distance) -> Words
+fn passed(kind: u64, distance: Distance) -> [u64; 6]
     ensures { result ≡ Spec.passed kind distance }
 {
-    Words {
-        number: 0,
-        first: kind,
-        second: words::pattern(distance.0),
-        third: 0,
-        fourth: 0,
-        fifth: 0,
-    }
+    [0, kind, pattern(distance.0), 0, 0, 0]
 }
 
-fn approach_words(a: Approach) -> Words
+fn approach_words(a: Approach) -> [u64; 6]
     ensures { result ≡ Spec.approach_words a }
 {
     match a {
@@ -49,16 +41,16 @@ fn approach_words(a: Approach) -> Words
 }
 
 // The words of a closest approach.
-pub fn cpa_words(answer: Result<Approach, Refusal>) -> Words
+pub fn cpa_words(answer: Result<Approach, Refusal>) -> [u64; 6]
     ensures { result ≡ Spec.cpa_words answer }
 {
     match answer {
         Ok(a) => approach_words(a),
-        Err(why) => words::refused(why),
+        Err(why) => refused(why),
     }
 }
 
-fn pass_words(p: Pass) -> Words
+fn pass_words(p: Pass) -> [u64; 6]
     ensures { result ≡ Spec.pass_words p }
 {
     match p {
@@ -69,45 +61,38 @@ fn pass_words(p: Pass) -> Words
 }
 
 // The words of a passing: kind and distance.
-pub fn passing_words(answer: Result<Pass, Refusal>) -> Words
+pub fn passing_words(answer: Result<Pass, Refusal>) -> [u64; 6]
     ensures { result ≡ Spec.passing_words answer }
 {
     match answer {
         Ok(p) => pass_words(p),
-        Err(why) => words::refused(why),
+        Err(why) => refused(why),
     }
 }
 
 // ---- one value
-fn value(x: f64) -> Words
+fn value(x: f64) -> [u64; 6]
     ensures { result ≡ Spec.value x }
 {
-    Words {
-        number: 0,
-        first: words::pattern(x),
-        second: 0,
-        third: 0,
-        fourth: 0,
-        fifth: 0,
-    }
+    [0, pattern(x), 0, 0, 0, 0]
 }
 
 // The word of a bearing.
-pub fn bearing_words(answer: Result<RelativeBearing, Refusal>) -> Words
+pub fn bearing_words(answer: Result<RelativeBearing, Refusal>) -> [u64; 6]
     ensures { result ≡ Spec.bearing_words answer }
 {
     match answer {
         Ok(b) => value(b.0),
-        Err(why) => words::refused(why),
+        Err(why) => refused(why),
     }
 }
 
 // The word of a bow crossing's range.
-pub fn bow_words(answer: Result<Distance, Refusal>) -> Words
+pub fn bow_words(answer: Result<Distance, Refusal>) -> [u64; 6]
     ensures { result ≡ Spec.bow_words answer }
 {
     match answer {
         Ok(d) => value(d.0),
-        Err(why) => words::refused(why),
+        Err(why) => refused(why),
     }
 }

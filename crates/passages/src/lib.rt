@@ -20,7 +20,7 @@ pub struct Target {
 }
 
 // The same by its range, and by the north and east parts of its offset and its velocity.
-#[derive(Clone, Copy)]
+#[derive(Clone, Copy, Default)]
 pub struct Moving {
     pub range: Distance,
     pub offset: Components,

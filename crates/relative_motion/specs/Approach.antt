@@ -19,6 +19,7 @@ use Rattle.motion.specs.declared.vessel.Contact.{Contact}
 use Rattle.motion.specs.declared.vessel.Components.{Components}
 use Rattle.relative_motion.specs.declared.approach.Approach.{Approach}
 use Rattle.relative_motion.specs.declared.approach.Pass.{Pass}
+use Rattle.relative_motion.specs.declared.approach.Track.{Track}
 use Rattle.arguments.specs.Check.{zero, verdict, vessel_checks, contact_checks, encounter_checks}
 use Rattle.motion.specs.Vessel.{direction_of, offset, relative_velocity}
 
@@ -48,6 +49,14 @@ time_of position relative = let speed = relative_speed relative in neg (closing_
 -- the point of the relative track that is nearest to own craft
 unfoldable pub closest : Components → Components → Components
 closest position relative = let time = time_of position relative in record { north = position.north ⊕ relative.north ⊗ time; east = position.east ⊕ relative.east ⊗ time }
+
+-- how the relative track goes; where it closes, when, to what point, and how far that is
+unfoldable pub track : Components → Components → Track
+track position relative =
+    let point = closest position relative in
+    cond (lt (relative_speed relative) stationary_knots) Track.Stationary
+    (cond (le (time_of position relative) zero) Track.Opening
+    (Track.Closing (time_of position relative) point (record { 0 = hypot point.north point.east })))
 
 unfoldable pub approach_from : Distance → Components → Components → Approach
 approach_from range position relative =

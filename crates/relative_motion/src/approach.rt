@@ -27,7 +27,8 @@ pub enum Approach {
     Stationary { range: Distance },
 }
 
-// An approach without its time and bearing: the distance of the closest point, or the range now.
+// An approach without its time and bearing: the distance of the closest point, or the range now. A type of its own: one with a parameter for
+// what a closing contact has would make `Approach` an `Approach<Cpa>` wherever it is named.
 #[derive(Clone, Copy)]
 pub enum Pass {
     Closing(Distance),
@@ -35,7 +36,20 @@ pub enum Pass {
     Stationary(Distance),
 }
 
+// What both go by: the hours until a contact is closest, where it is then, and how far that is.
+#[derive(Clone, Copy)]
+enum Track {
+    Closing {
+        hours: f64,
+        closest: Components,
+        distance: Distance,
+    },
+    Opening,
+    Stationary,
+}
+
 // A time of so many hours; the longest one where it is too long, which no accepted argument brings about.
+#[tactic(auto, unfolding(crate::specs::Approach::time_to_go))]
 fn time_to_go(hours: f64) -> Duration
     ensures { result ≡ Spec.time_to_go hours }
 {
@@ -45,51 +59,67 @@ fn time_to_go(hours: f64) -> Duration
     })
 }
 
-// The approach of a contact at a range and an offset, with a velocity relative to own craft.
-pub fn approach_from(range: Distance, offset: Components, relative: Components) -> Approach
-    ensures { result ≡ Spec.approach_from range offset relative }
+// The track of a contact at an offset, with a velocity relative to own craft.
+#[tactic(auto, unfolding(crate::specs::Approach::track, crate::specs::Approach::relative_speed, crate::specs::Approach::time_of, crate::specs::Approach::closing_rate, crate::specs::Approach::closest))]
+fn track_of(offset: Components, relative: Components) -> Track
+    ensures { result ≡ Spec.track offset relative }
 {
     let relative_speed = root::hypot(relative.north, relative.east);
     if relative_speed < STATIONARY_KNOTS {
-        return Approach::Stationary { range };
-    }
-    let closing_rate = offset.north * relative.north + offset.east * relative.east;
-    let time = -closing_rate / (relative_speed * relative_speed);
-    if time <= 0.0 {
-        return Approach::Opening {
-            current_range: range,
-        };
-    }
-    let closest = Components {
-        north: offset.north + relative.north * time,
-        east: offset.east + relative.east * time,
-    };
-    Approach::Closing(Cpa {
-        distance: Distance(root::hypot(closest.north, closest.east)),
-        time_to_go: time_to_go(time),
-        bearing: vessel::direction_of(closest),
-    })
-}
-
-// The same without time and bearing.
-pub fn passing_from(range: Distance, offset: Components, relative: Components) -> Pass
-    ensures { result ≡ Spec.passing_in (Spec.approach_from range offset relative) }
-{
-    let relative_speed = root::hypot(relative.north, relative.east);
-    if relative_speed < STATIONARY_KNOTS {
-        return Pass::Stationary(range);
+        return Track::Stationary;
     }
     let closing_rate = offset.north * relative.north + offset.east * relative.east;
     let hours = -closing_rate / (relative_speed * relative_speed);
     if hours <= 0.0 {
-        return Pass::Opening(range);
+        return Track::Opening;
     }
-    let closest_north = offset.north + relative.north * hours;
-    let closest_east = offset.east + relative.east * hours;
-    Pass::Closing(Distance(root::hypot(closest_north, closest_east)))
+    let closest = Components {
+        north: offset.north + relative.north * hours,
+        east: offset.east + relative.east * hours,
+    };
+    Track::Closing {
+        hours,
+        closest,
+        distance: Distance(root::hypot(closest.north, closest.east)),
+    }
+}
+
+// The approach of a contact at a range and an offset, with a velocity relative to own craft.
+#[tactic(auto, unfolding(crate::specs::Approach::approach_from, crate::specs::Approach::track))]
+pub fn approach_from(range: Distance, offset: Components, relative: Components) -> Approach
+    ensures { result ≡ Spec.approach_from range offset relative }
+{
+    match track_of(offset, relative) {
+        Track::Closing {
+            hours,
+            closest,
+            distance,
+        } => Approach::Closing(Cpa {
+            distance,
+            time_to_go: time_to_go(hours),
+            bearing: vessel::direction_of(closest),
+        }),
+        Track::Opening => Approach::Opening {
+            current_range: range,
+        },
+        Track::Stationary => Approach::Stationary { range },
+    }
+}
+
+// The same without time and bearing.
+#[tactic(auto, unfolding(crate::specs::Approach::approach_from, crate::specs::Approach::track))]
+pub fn passing_from(range: Distance, offset: Components, relative: Components) -> Pass
+    ensures { result ≡ Spec.passing_in (Spec.approach_from range offset relative) }
+{
+    match track_of(offset, relative) {
+        Track::Closing { distance, .. } => Pass::Closing(distance),
+        Track::Opening => Pass::Opening(range),
+        Track::Stationary => Pass::Stationary(range),
+    }
 }
 
 // The closest point of approach at present courses and speeds.
+#[tactic(auto, unfolding(crate::specs::Approach::cpa_answer, crate::specs::Approach::approach))]
 pub fn closest_point_of_approach(
     own: Vessel,
     contact: Contact,
@@ -106,6 +136,7 @@ pub fn closest_point_of_approach(
 }
 
 // Its kind and distance alone, at the price of no arctangent and no time.
+#[tactic(auto, unfolding(crate::specs::Approach::passing_answer, crate::specs::Approach::cpa_answer, crate::specs::Approach::approach))]
 pub fn passing(own: Vessel, contact: Contact, target: Vessel) -> Result<Pass, Refusal>
     ensures { result ≡ Spec.passing_answer own contact target }
 {
@@ -118,6 +149,7 @@ pub fn passing(own: Vessel, contact: Contact, target: Vessel) -> Result<Pass, Re
 }
 
 // The bearing of a contact from own bow.
+#[tactic(auto, unfolding(crate::specs::Approach::bearing_answer, arguments::specs::Check::verdict))]
 pub fn relative_bearing_of(own: Vessel, contact: Contact) -> Result<RelativeBearing, Refusal>
     ensures { result ≡ Spec.bearing_answer own contact }
 {

@@ -1,8 +1,7 @@
 -- The ruled search's answer on a sheet, from what its arguments are read as.
 use mathlib.Core.Path.{◌≡◌, refl}
 use mathlib.Core.List.{List, map}
-use Prim.Native.Nat.{ℕ}
-use lib.ListN.{length}
+use lib.ListN.{length, length-map}
 use lib.Ieee.{Float}
 use Rattle.situation.specs.declared.party.Party.{Party}
 use Rattle.std.specs.declared.option.Option.{Option}
@@ -19,8 +18,8 @@ use Rattle.sheet_record.specs.declared.Row.{Row}
 use Rattle.sheet_values.specs.Values.{scaled, visibility_of, own_of, wind_from, entry_of}
 use Rattle.report.specs.Report.{answer_on}
 
-pub answered : (h : Header) (rs : List Row) (c : ManoeuvreConstraints) (own : Party) (n count : ℕ) (es : List Entry) (visibility : Visibility) (wind : Option Direction) (x : Float) {r : Result RuledManoeuvre Refusal}
-    → own ≡ own_of h → n ≡ count → count ≡ length rs → es ≡ map entry_of rs → visibility ≡ visibility_of h.visibility → wind ≡ wind_from h → x ≡ scaled h.desired
-    → r ≡ ruled_answer own n es visibility wind (record { 0 = x }) c → r ≡ answer_on h rs c
+pub answered : (h : Header) (rs : List Row) (c : ManoeuvreConstraints) (own : Party) (es : List Entry) (visibility : Visibility) (wind : Option Direction) (x : Float) {r : Result RuledManoeuvre Refusal}
+    → own ≡ own_of h → es ≡ map entry_of rs → visibility ≡ visibility_of h.visibility → wind ≡ wind_from h → x ≡ scaled h.desired
+    → r ≡ ruled_answer own (length es) es visibility wind (record { 0 = x }) c → r ≡ answer_on h rs c
 unfolding answer_on
-answered h rs c own n count es visibility wind x eo en ec ee ev ew ex er = rw (er, eo, en, ec, ee, ev, ew, ex) refl
+answered h rs c own es visibility wind x eo ee ev ew ex er = rw (er, eo, ee, ev, ew, ex) (rw length-map refl)

@@ -1,2 +1,3 @@
 -- Laws on counts and the room.
 pub mod Counts
+pub mod Made

@@ -1,7 +1,7 @@
 // The room for contacts, which every list of them has.
 #![tactic(auto)]
 
-ghost use Rattle.std.specs.Prelude.{◌≡◌, min};
+ghost use Rattle.std.specs.Prelude.{◌≡◌, ◌≤◌, length, min, take};
 ghost use Rattle.room.specs.Room.{max_contacts};
 
 // The most contacts of a list.
@@ -11,8 +11,13 @@ pub const MAX_CONTACTS: usize = 32;
 pub fn held(count: usize) -> usize
     ensures { result ≡ min count max_contacts }
 {
-    if count < MAX_CONTACTS {
-        return count;
-    }
-    MAX_CONTACTS
+    count.min(MAX_CONTACTS)
+}
+
+// The first MAX_CONTACTS of a list, all of it where it is shorter.
+pub fn first<T>(list: &[T]) -> &[T]
+    ensures value { result.now ≡ take max_contacts list.now }
+    ensures fits { length result.now ≤ max_contacts }
+{
+    &list[..held(list.len())]
 }

@@ -1,5 +1,5 @@
--- What the code of the ruled search owes: the checks in their order, what is said of a chosen trial, and the search by offsets and velocities.
-use Rattle.std.specs.Prelude.{None, Some, Err, Ok}
+-- What the code of the ruled search owes: the search by offsets and velocities, and the answer with its clauses.
+use Rattle.std.specs.Prelude.{Err, Ok}
 use mathlib.Core.Path.{◌≡◌, sym, ap, ◌∙◌, subst}
 use mathlib.Core.Bool.{Bool, true, false, cond, ◌||◌}
 use mathlib.Core.List.{List, map}
@@ -9,45 +9,26 @@ use Rattle.elementary.specs.declared.error.Refusal.{Refusal}
 use Rattle.elementary.specs.declared.error.Refusal.TheVariants as Why
 use Rattle.motion.specs.declared.units.Distance.{Distance}
 use Rattle.motion.specs.declared.units.Direction.{Direction}
-use Rattle.motion.specs.declared.vessel.Vessel.{Vessel}
 use Rattle.std.specs.declared.option.Option.{Option}
 use Rattle.std.specs.declared.result.Result.{Result}
-use Rattle.motion.specs.declared.units.RateOfTurn.{RateOfTurn}
-use Rattle.time.specs.declared.Duration.{Duration}
 use Rattle.arguments.specs.Check.{verdict}
 use Rattle.situation.specs.declared.party.Party.{Party}
 use Rattle.situation.specs.declared.party.Visibility.{Visibility}
 use Rattle.constraints.specs.declared.ManoeuvreConstraints.{ManoeuvreConstraints}
-use Rattle.manoeuvre.specs.Manoeuvre.{turn_time}
 use Rattle.passages.specs.declared.Moving.{Moving}
-use Rattle.clearing.specs.Clearing.{altered, floor_of, moving}
+use Rattle.clearing.specs.Clearing.{floor_of, moving}
 use Rattle.choice.specs.declared.Sides.{Sides}
 use Rattle.choice.specs.declared.Chosen.{Chosen}
-use Rattle.choice.specs.Choice.{signed, smallest}
+use Rattle.choice.specs.Choice.{smallest}
 use Rattle.choice_laws.proofs.Searched.{smallest_is}
 use Rattle.traffic.specs.declared.Entry.{Entry}
 use Rattle.traffic.specs.Traffic.{target_of}
 use Rattle.rulings.specs.declared.RuledManoeuvre.{RuledManoeuvre}
-use Rattle.rulings.specs.Ruled.{shared_sides, ruled_checks, manoeuvre_of, chosen_answer, answered, ruled, ruled_as, ruled_by, ruled_answer}
+use Rattle.rulings.specs.Ruled.{shared_sides, ruled_checks, chosen_answer, answered, ruled, ruled_as, ruled_by, ruled_answer}
 use Rattle.rulings.specs.Demand3.{Demand3}
 use Rattle.ruled_laws.specs.Held.{HeldArguments}
 use Rattle.ruled_laws.proofs.Accepted as Accepted
 use Rattle.ruled_laws.proofs.Demanded.{demanded}
-
--- ---- a chosen trial
-module _ (own : Vessel) (c : ManoeuvreConstraints) where
-  pub said : (x : Chosen) (a : Float) (v : Vessel) (rate : Option RateOfTurn) (time : Option Duration) → a ≡ signed x.side x.magnitude.0 → v ≡ altered own a → rate ≡ c.rate_of_turn → time ≡ turn_time x.magnitude.0 rate
-      → ◌≡◌ {A = RuledManoeuvre} (record { side = x.side; magnitude = x.magnitude; course = v.course; turn_time = time; passing = x.passing.distance; limiting = x.passing.limiting }) (manoeuvre_of own c x)
-  said x a v rate time ea ev er et = ap (λ d. make d time) (ap (λ v. v.course) (ev ∙ ap (altered own) ea)) ∙ ap (make (altered own (signed x.side x.magnitude.0)).course) (et ∙ ap (turn_time x.magnitude.0) er)
-    where
-      make : Direction → Option Duration → RuledManoeuvre
-      make d time = record { side = x.side; magnitude = x.magnitude; course = d; turn_time = time; passing = x.passing.distance; limiting = x.passing.limiting }
-
-  pub no_trial : (choice : Option Chosen) → choice ≡ None → Err Why.NoTrialClears ≡ chosen_answer own c choice
-  no_trial choice e = ap (chosen_answer own c) (sym e)
-
-  pub a_trial : (choice : Option Chosen) (x : Chosen) (m : RuledManoeuvre) → choice ≡ Some x → m ≡ manoeuvre_of own c x → Ok m ≡ chosen_answer own c choice
-  a_trial choice x m e em = ap Ok em ∙ ap (chosen_answer own c) (sym e)
 
 -- ---- the search, with the sides that the rulings share
 module _ (own : Party) (entries : List Entry) (visibility : Visibility) (wind : Option Direction) (desired : Distance) (c : ManoeuvreConstraints) (sides : Sides) (is : sides ≡ shared_sides own visibility wind entries) where
@@ -81,11 +62,13 @@ module _ (own : Party) (count : ℕ) (entries : List Entry) (visibility : Visibi
       ap (answered own.motion c (shared_sides own visibility wind entries))
       (smallest_is own.motion (map target_of entries) desired (Accepted.own_fit own count entries wind desired c h k) (Accepted.targets_fit own count entries wind desired c h k) (shared_sides own visibility wind entries) c.least_alteration.0 c.most_alteration.0 (Accepted.limits own count entries wind desired c h k))
 
-  promised : (r : Result RuledManoeuvre Refusal) → r ≡ ruled_answer own count entries visibility wind desired c → (r ≡ ruled_answer own count entries visibility wind desired c) × Demand3 own entries visibility wind desired c count r
-  promised r e = (e, subst (Demand3 own entries visibility wind desired c count) (sym e) (demanded own count entries visibility wind desired c k))
-
   pub accepted : w ≡ (Ok tt) → (r : Result RuledManoeuvre Refusal) → r ≡ ruled_as own entries visibility wind desired c → (r ≡ ruled_answer own count entries visibility wind desired c) × Demand3 own entries visibility wind desired c count r
-  accepted e r er = promised r (er ∙ same e ∙ of (Ok tt) e)
+  accepted e r er =
+      let is = er ∙ same e ∙ of (Ok tt) e in
+      (is, subst (Demand3 own entries visibility wind desired c count) (sym is) (demanded own count entries visibility wind desired c k))
 
-  pub refused : (why : Refusal) → w ≡ Err why → (Err why ≡ ruled_answer own count entries visibility wind desired c) × Demand3 own entries visibility wind desired c count (Err why)
-  refused why e = promised (Err why) (of (Err why) e)
+-- an argument that is refused decides
+module _ (own : Party) (count : ℕ) (entries : List Entry) (visibility : Visibility) (wind : Option Direction) (desired : Distance) (c : ManoeuvreConstraints) where
+  pub refused : (why : Refusal) → Err why ≡ verdict (ruled_checks own count entries wind desired c) (Ok tt) → (Err why ≡ ruled_answer own count entries visibility wind desired c) × Demand3 own entries visibility wind desired c count (Err why)
+  unfolding ruled_answer
+  refused why e = (ap (λ v. ruled_by v (ruled own entries visibility wind desired c)) e, record { refused = λ other h. ap (λ v. ruled_by v (Err why)) (e ∙ h); accepted = λ h. cc (e ∙ h) })

@@ -4,7 +4,8 @@ use mathlib.Core.Path.{◌≡◌, sym, ap, subst}
 use mathlib.Core.Logic.{⊎_elim}
 use mathlib.Core.List.Memᴰ
 use mathlib.Core.List.{List, [], ◌∷◌, ◌++◌, map, Memᴰ}
-use Prim.Native.Nat.{ℕ}
+use Prim.Native.Nat.{ℕ, ◌≤◌}
+use lib.Dec.{leb→le}
 use lib.Ieee.{le, of_bits}
 use Rattle.elementary.specs.Range.{in_range}
 use Rattle.motion.specs.declared.units.Distance.{Distance}
@@ -20,6 +21,7 @@ use Rattle.colregs.specs.Colregs.{ruling_of, ruling_by, ruling_answer}
 use Rattle.constraints.specs.declared.ManoeuvreConstraints.{ManoeuvreConstraints}
 use Rattle.constraints.specs.Constraints.{constraint_checks}
 use Rattle.trials.specs.Trials.{Limits}
+use Rattle.room.specs.Room.{max_contacts}
 use Rattle.traffic.specs.declared.Entry.{Entry}
 use Rattle.traffic.specs.Traffic.{target_of, count_checks, entry_checks, contacts_checks}
 use Rattle.motion_laws.specs.Sound.{AllGood}
@@ -58,6 +60,11 @@ module _ (own : Party) (count : ℕ) (entries : List Entry) (wind : Option Direc
   after-count : AllGood (party_checks own ++ from_contacts)
   unfolding ruled_checks
   after-count = good_back (count_checks count) (party_checks own ++ from_contacts) (all_good (ruled_checks own count entries wind desired c) h)
+
+  -- there are no more than is room for
+  pub few : count ≤ max_contacts
+  unfolding ruled_checks
+  few = leb→le count max_contacts (good_front (count_checks count) (party_checks own ++ from_contacts) (all_good (ruled_checks own count entries wind desired c) h)).0
 
   pub own_good : AllGood (party_checks own)
   own_good = good_front (party_checks own) from_contacts after-count

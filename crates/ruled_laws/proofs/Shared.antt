@@ -18,8 +18,8 @@ use Rattle.situation.specs.Situation.{standard}
 use Rattle.motion.specs.declared.units.Distance.{Distance}
 use Rattle.colregs.specs.Colregs.{ruling_answer}
 use Rattle.constraints.specs.declared.ManoeuvreConstraints.{ManoeuvreConstraints}
-use Rattle.manoeuvre.specs.declared.Side.{Side}
-use Rattle.manoeuvre.specs.declared.Side.TheVariants.{Starboard, Port}
+use Rattle.motion.specs.declared.side.Side.{Side}
+use Rattle.motion.specs.declared.side.Side.TheVariants.{Starboard, Port}
 use Rattle.choice.specs.declared.Sides.{Sides}
 use Rattle.choice_laws.specs.Smallest.{allows}
 use Rattle.traffic.specs.declared.Entry.{Entry}

@@ -3,14 +3,11 @@ use mathlib.Core.List.{List, Memᴰ}
 use Rattle.std.specs.Prelude.{T}
 use Rattle.std.specs.Float.{binary64}
 use Rattle.std.specs.Float.Ieee.{fits}
-use Rattle.motion_laws.specs.Sound.{HeldVessel, HeldContact}
+use Rattle.motion_laws.specs.Sound.{HeldVessel}
 use Rattle.situation.specs.declared.party.Party.{Party}
 use Rattle.constraints.specs.declared.ManoeuvreConstraints.{ManoeuvreConstraints}
 use Rattle.traffic.specs.declared.Entry.{Entry}
-
-pub record HeldEntry (e : Entry) : Type 0 where
-  pub contact : HeldContact e.contact
-  pub vessel : HeldVessel e.target.motion
+pub use Rattle.traffic.specs.Traffic.{HeldEntry}
 
 pub record HeldArguments (own : Party) (entries : List Entry) (c : ManoeuvreConstraints) : Type 0 where
   pub vessel : HeldVessel own.motion

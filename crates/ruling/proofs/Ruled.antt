@@ -1,20 +1,16 @@
--- What the code of the ruling owes: its parts, and its answers by the verdict on the arguments.
+-- What the code of the ruling owes: its answers by the verdict on the arguments.
 use Rattle.std.specs.Prelude.{Err, Ok}
-use mathlib.Core.Path.{◌≡◌, refl, sym, ap, ◌∙◌}
+use mathlib.Core.Path.{◌≡◌, ap, ◌∙◌}
 use mathlib.Core.List.{◌++◌}
 use Rattle.elementary.specs.declared.error.Refusal.{Refusal}
-use Rattle.std.specs.declared.result.Result.{Result}
 use Rattle.arguments.specs.Check.{checked}
 use Rattle.situation.specs.declared.party.Situation.{Situation}
 use Rattle.situation.specs.declared.config.ColregsConfig.{ColregsConfig}
 use Rattle.facts.specs.declared.Facts.{Facts}
 use Rattle.facts.specs.Facts.{facts_of}
 use Rattle.situation.specs.Arguments.{situation_checks, config_checks}
-use Rattle.colregs.specs.declared.answer.Encounter.{Encounter}
-use Rattle.colregs.specs.declared.answer.Decision.{Decision}
-use Rattle.colregs.specs.declared.answer.PermittedManoeuvre.{PermittedManoeuvre}
 use Rattle.colregs.specs.declared.answer.Ruling.{Ruling}
-use Rattle.colregs.specs.Colregs.{encounter_of, decided, clauses, permitted, ruling_for, ruling_of, ruling_by, ruling_answer}
+use Rattle.colregs.specs.Colregs.{ruling_of, ruling_by, ruling_answer}
 
 module _ (s : Situation) (config : ColregsConfig) where
   pub ruled : (f : Facts) (r : Ruling) → Ok tt ≡ checked (situation_checks s ++ config_checks config) → f ≡ facts_of s → r ≡ ruling_of config f → Ok r ≡ ruling_answer s config
@@ -24,9 +20,3 @@ module _ (s : Situation) (config : ColregsConfig) where
   pub refused : (why : Refusal) → Err why ≡ checked (situation_checks s ++ config_checks config) → Err why ≡ ruling_answer s config
   unfolding ruling_answer
   refused why h = ap (λ v. ruling_by v (ruling_of config (facts_of s))) h
-
--- ---- the ruling, from its parts
-pub ruling_is : (config : ColregsConfig) (f : Facts) (e : Encounter) (d : Decision) (m : PermittedManoeuvre) → e ≡ encounter_of config f → d ≡ decided (clauses e f) → m ≡ permitted e d f.relative
-    → ◌≡◌ {A = Ruling} (record { encounter = e; responsibility = d.responsibility; rule = d.rule; manoeuvre = m }) (ruling_of config f)
-unfolding ruling_of ruling_for
-ruling_is config f e d m is-e is-d is_m = rw is_m rw is-d rw is-e refl

@@ -31,6 +31,7 @@ fn is_overtaking(e: Encounter) -> bool
     matches!(e, Encounter::Overtaking)
 }
 
+#[tactic(auto, unfolding(colregs::specs::Colregs::forward_of_beam))]
 fn forward_of_beam(relative: f64) -> bool
     ensures { result ≡ Spec.forward_of_beam relative }
 {
@@ -38,62 +39,53 @@ fn forward_of_beam(relative: f64) -> bool
 }
 
 // Rule 19(d)(ii): not towards a vessel abeam or abaft the beam.
+#[tactic(auto, unfolding(colregs::specs::Colregs::starboard_by19))]
 fn starboard_by_19(relative: f64) -> bool
     ensures { result ≡ Spec.starboard_by19 relative }
 {
-    let forward = forward_of_beam(relative);
-    forward || !(relative >= 0.0)
+    forward_of_beam(relative) || !(relative >= 0.0)
 }
 
 // Rule 19(d): not to port for a vessel forward of the beam, unless she is overtaken, nor towards one abeam or abaft it.
+#[tactic(auto, unfolding(colregs::specs::Colregs::port_by19))]
 fn port_by_19(e: Encounter, relative: f64) -> bool
     ensures { result ≡ Spec.port_by19 e relative }
 {
     if forward_of_beam(relative) {
-        return is_overtaking(e);
+        is_overtaking(e)
+    } else {
+        relative >= 0.0
     }
-    relative >= 0.0
 }
 
 // Rule 17(c): a vessel that stands on in a crossing does not alter to port.
+#[tactic(auto, unfolding(colregs::specs::Colregs::port_by17))]
 fn port_by_17(e: Encounter, duty: Responsibility) -> bool
     ensures { result ≡ Spec.port_by17 e duty }
 {
-    if is_stand_on(duty) {
-        return !is_crossing(e);
-    }
-    true
+    !(is_stand_on(duty) && is_crossing(e))
 }
 
 fn starboard_by(rule: Rule, relative: f64) -> bool
     ensures { result ≡ Spec.starboard_by rule relative }
 {
     match rule {
-        Rule::Rule12 => true,
-        Rule::Rule13 => true,
-        Rule::Rule14 => true,
-        Rule::Rule15 => true,
-        Rule::Rule17 => true,
-        Rule::Rule18 => true,
         Rule::Rule19 => starboard_by_19(relative),
+        _ => true,
     }
 }
 
 fn port_by(rule: Rule, e: Encounter, duty: Responsibility, relative: f64) -> bool
     ensures { result ≡ Spec.port_by rule e duty relative }
 {
-    let unless_crossed = port_by_17(e, duty);
     match rule {
-        Rule::Rule12 => unless_crossed,
-        Rule::Rule13 => unless_crossed,
-        Rule::Rule14 => false,
-        Rule::Rule15 => false,
-        Rule::Rule17 => unless_crossed,
-        Rule::Rule18 => unless_crossed,
+        Rule::Rule14 | Rule::Rule15 => false,
         Rule::Rule19 => port_by_19(e, relative),
+        _ => port_by_17(e, duty),
     }
 }
 
+#[tactic(auto, unfolding(colregs::specs::Colregs::permitted))]
 fn permitted(e: Encounter, d: Decision, relative: f64) -> PermittedManoeuvre
     ensures { result ≡ Spec.permitted e d relative }
 {
@@ -106,6 +98,7 @@ fn permitted(e: Encounter, d: Decision, relative: f64) -> PermittedManoeuvre
 }
 
 // The ruling on the facts of a situation.
+#[tactic(auto, unfolding(colregs::specs::Colregs::ruling_of, colregs::specs::Colregs::ruling_for))]
 pub fn ruling_of(config: ColregsConfig, f: Facts) -> Ruling
     ensures { result ≡ Spec.ruling_of config f }
 {

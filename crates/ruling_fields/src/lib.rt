@@ -6,7 +6,8 @@ ghost use Rattle.text.specs.Text.{shown, appended};
 ghost use Rattle.text.specs.Line.{spaced};
 ghost use Rattle.ruling_fields.specs.Fields as Spec;
 
-use colregs::answer::{Encounter, Responsibility, Side};
+use colregs::answer::{Encounter, Responsibility};
+use motion::side::Side;
 use text::Text;
 
 // A crossing, by the side on which the target is.

@@ -25,7 +25,7 @@ use Rattle.situation.specs.declared.party.VesselCategory.TheVariants.{PowerDrive
 use Rattle.situation.specs.Situation.{party, with_heading, heading, situation, with_wind_from}
 use Rattle.facts.specs.Facts.{relative_of, aspect_of, larger, speed_of, range_rate, is_closing, facts_of}
 use Rattle.situation.specs.Arguments.{party_checks, is_width, situation_checks}
-use Rattle.colregs.specs.declared.answer.Side.TheVariants.{Port, Starboard}
+use Rattle.motion.specs.declared.side.Side.TheVariants.{Port, Starboard}
 use Rattle.colregs.specs.declared.answer.Encounter.TheVariants.{Overtaking, BeingOvertaken, HeadOn, Crossing}
 use Rattle.colregs.specs.declared.answer.Responsibility.TheVariants.{GiveWay, StandOn, Both, Undetermined}
 use Rattle.colregs.specs.declared.answer.Rule.TheVariants.{Rule12, Rule13, Rule14, Rule15, Rule17, Rule18, Rule19}

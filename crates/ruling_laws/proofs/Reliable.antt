@@ -14,8 +14,8 @@ use Rattle.situation.specs.declared.party.Tack.{Tack}
 use Rattle.facts.specs.declared.Windward.{Windward}
 use Rattle.situation.specs.declared.config.ColregsConfig.{ColregsConfig}
 use Rattle.facts.specs.declared.Facts.{Facts}
-use Rattle.colregs.specs.declared.answer.Side.{Side}
-use Rattle.colregs.specs.declared.answer.Side.TheVariants.{Port, Starboard}
+use Rattle.motion.specs.declared.side.Side.{Side}
+use Rattle.motion.specs.declared.side.Side.TheVariants.{Port, Starboard}
 use Rattle.colregs.specs.declared.answer.Encounter.{Encounter}
 use Rattle.colregs.specs.declared.answer.Encounter.TheVariants.{Overtaking, BeingOvertaken, HeadOn, Crossing}
 use Rattle.colregs.specs.declared.answer.Responsibility.{Responsibility}

@@ -16,7 +16,7 @@ use Rattle.situation.specs.declared.party.Visibility.TheVariants as Visibility
 use Rattle.situation.specs.declared.party.Situation.{Situation}
 use Rattle.situation.specs.declared.config.ColregsConfig.{ColregsConfig}
 use Rattle.situation.specs.Situation.{party, with_heading, situation, with_wind_from, standard}
-use Rattle.colregs.specs.declared.answer.Side.TheVariants.{Port, Starboard}
+use Rattle.motion.specs.declared.side.Side.TheVariants.{Port, Starboard}
 use Rattle.colregs.specs.declared.answer.Encounter.{Encounter}
 use Rattle.colregs.specs.declared.answer.Encounter.TheVariants.{Overtaking, BeingOvertaken, HeadOn, Crossing}
 use Rattle.colregs.specs.declared.answer.Responsibility.{Responsibility}

@@ -1,8 +1,8 @@
 -- Rulings as the C exports give them: words.
-use Rattle.std.specs.Prelude.{Bool, true, false, cond, ℕ, eqb, Err, Ok}
-use Rattle.elementary.specs.Refusal.{number_of}
+use Rattle.std.specs.Prelude.{List, [], ◌∷◌, ℕ, Err, Ok}
+use Rattle.std.specs.Int.{from_bool}
 use Rattle.elementary.specs.declared.error.Refusal.{Refusal}
-use Rattle.colregs.specs.declared.answer.Side.TheVariants as Side
+use Rattle.motion.specs.declared.side.Side.TheVariants as Side
 use Rattle.colregs.specs.declared.answer.Encounter.{Encounter}
 use Rattle.colregs.specs.declared.answer.Encounter.TheVariants.{Overtaking, BeingOvertaken, HeadOn, Crossing}
 use Rattle.colregs.specs.declared.answer.Responsibility.{Responsibility}
@@ -10,19 +10,8 @@ use Rattle.colregs.specs.declared.answer.Responsibility.TheVariants.{GiveWay, St
 use Rattle.colregs.specs.declared.answer.Ruling.{Ruling}
 use Rattle.std.specs.declared.result.Result.{Result}
 use Rattle.colregs.specs.Ruling.{rule_number}
-use Rattle.ruling_words.specs.declared.Words.{Words}
+use Rattle.words.specs.Words.{refused}
 
-unfoldable pub word : Words → ℕ → ℕ
-word w part =
-    cond (eqb part 0) w.number
-    (cond (eqb part 1) w.encounter
-    (cond (eqb part 2) w.responsibility
-    (cond (eqb part 3) w.rule
-    (cond (eqb part 4) w.starboard
-    (cond (eqb part 5) w.port
-    (cond (eqb part 6) w.slow w.hold))))))
-
--- ---- rulings
 abbrev pub encounter_code : Encounter → ℕ
 encounter_code Overtaking = 0
 encounter_code BeingOvertaken = 1
@@ -36,25 +25,11 @@ responsibility_code StandOn = 1
 responsibility_code Both = 2
 responsibility_code Undetermined = 3
 
-abbrev pub flag : Bool → ℕ
-flag true = 1
-flag false = 0
+abbrev pub ruled : Ruling → List ℕ
+ruled r =
+    0 ∷ encounter_code r.encounter ∷ responsibility_code r.responsibility ∷ rule_number r.rule
+    ∷ from_bool r.manoeuvre.starboard ∷ from_bool r.manoeuvre.port ∷ from_bool r.manoeuvre.slow_down ∷ from_bool r.manoeuvre.hold ∷ []
 
-unfoldable pub ruled : Ruling → Words
-ruled r = record {
-  number = 0;
-  encounter = encounter_code r.encounter;
-  responsibility = responsibility_code r.responsibility;
-  rule = rule_number r.rule;
-  starboard = flag r.manoeuvre.starboard;
-  port = flag r.manoeuvre.port;
-  slow = flag r.manoeuvre.slow_down;
-  hold = flag r.manoeuvre.hold;
-}
-
-unfoldable pub refused : Refusal → Words
-refused why = record { number = number_of why; encounter = 0; responsibility = 0; rule = 0; starboard = 0; port = 0; slow = 0; hold = 0 }
-
-abbrev pub ruling_words : Result Ruling Refusal → Words
+abbrev pub ruling_words : Result Ruling Refusal → List ℕ
 ruling_words (Ok r) = ruled r
-ruling_words (Err why) = refused why
+ruling_words (Err why) = refused 8 why

@@ -1,4 +1,4 @@
--- What the code of the shared sides owes: the sides of one ruling, and the loop over the contacts.
+-- What the code of the shared sides owes: the sides of one ruling.
 use Rattle.std.specs.Prelude.{Err, Ok}
 use mathlib.Core.Path.{◌≡◌, sym, ap, ◌∙◌}
 use mathlib.Core.Bool.{false}
@@ -31,8 +31,3 @@ module _ (own : Party) (visibility : Visibility) (wind : Option Direction) where
   pub of_entry : (e : Entry) (a : Result Ruling Refusal) (r : Sides) → a ≡ ruling_answer (situation_of own visibility wind e) standard → r ≡ permitted_by a → r ≡ sides_of own visibility wind e
   unfolding sides_of
   of_entry e a r ea er = er ∙ ap permitted_by ea
-
-  -- ---- all contacts: a count beyond the room is cut at it
-  pub all_joined : (list : List Entry) (n count room : ℕ) (r : Sides) → n ≡ min count room → length list ≡ room → r ≡ fold (join_sides own visibility wind) either (take n list) → r ≡ shared_sides own visibility wind (take count list)
-  unfolding shared_sides
-  all_joined list n count room r is full e = e ∙ ap (λ l. fold (join_sides own visibility wind) either l) (ap (λ k. take k list) (is ∙ ap (min count) (sym full)) ∙ take-held count list)

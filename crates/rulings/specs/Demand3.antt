@@ -20,8 +20,8 @@ use Rattle.situation.specs.declared.party.Visibility.{Visibility}
 use Rattle.situation.specs.Situation.{standard}
 use Rattle.colregs.specs.declared.answer.Ruling.{Ruling}
 use Rattle.colregs.specs.Colregs.{ruling_answer}
-use Rattle.manoeuvre.specs.declared.Side.{Side}
-use Rattle.manoeuvre.specs.declared.Side.TheVariants.{Starboard, Port}
+use Rattle.motion.specs.declared.side.Side.{Side}
+use Rattle.motion.specs.declared.side.Side.TheVariants.{Starboard, Port}
 use Rattle.constraints.specs.declared.ManoeuvreConstraints.{ManoeuvreConstraints}
 use Rattle.manoeuvre.specs.Manoeuvre.{turn_time}
 use Rattle.trials.specs.Trials.{trials}

@@ -3,18 +3,17 @@
 #![tactic(auto)]
 
 ghost use Rattle.std.specs.Prelude.{◌≡◌};
-ghost use Rattle.traffic.specs.Traffic as Around;
 ghost use Rattle.rulings.specs.Ruled as Spec;
 
 use choice::Sides;
 use colregs::answer::Ruling;
 use elementary::error::Refusal;
-use manoeuvre::Side;
+use motion::side::Side;
 use motion::units::{Angle, Direction, Distance};
 use situation::config::ColregsConfig;
 use situation::party::{Party, Situation, Visibility};
 use time::Duration;
-use traffic::{Entry, Traffic};
+use traffic::Entry;
 
 // A trial that clears the traffic: the list that held it, its magnitude, the altered course, the time that the turn takes, the least passing
 // distance and whose it is.
@@ -48,12 +47,10 @@ fn permitted_by(answer: Result<Ruling, Refusal>) -> Sides
 fn sides_of(own: Party, visibility: Visibility, wind: Option<Direction>, e: Entry) -> Sides
     ensures { result ≡ Spec.sides_of own visibility wind e }
 {
-    let target = e.target;
-    let contact = e.contact;
     let s = Situation {
         own,
-        target,
-        contact,
+        target: e.target,
+        contact: e.contact,
         visibility,
         wind_from: wind,
     };
@@ -72,17 +69,17 @@ fn in_both(a: Sides, b: Sides) -> Sides
 // The sides that the rulings on all contacts permit; both without contacts.
 pub fn shared_sides(
     own: Party,
-    t: Traffic,
+    t: &[Entry],
     visibility: Visibility,
     wind: Option<Direction>,
 ) -> Sides
-    ensures { result ≡ Spec.shared_sides own visibility wind (Around.contacts t) }
+    ensures { result ≡ Spec.shared_sides own visibility wind t.now }
 {
     let mut sides = Sides {
         starboard: true,
         port: true,
     };
-    for e in &t.list[..room::held(t.count)] {
+    for e in t {
         sides = in_both(sides, sides_of(own, visibility, wind, *e));
     }
     sides

@@ -3,6 +3,7 @@ use Rattle.std.specs.Prelude.{Bool, true, false, cond, List, Float, None, Some, 
 use Rattle.std.specs.Float.Ieee.{lt, le}
 use Rattle.laws.specs.Ops.{◌⊖◌}
 use Rattle.math.specs.Sign.{abs}
+use Rattle.math.specs.Test.{larger}
 use Rattle.angle.specs.Fold.{half_fold}
 use Rattle.motion.specs.declared.units.Direction.{Direction}
 use Rattle.motion.specs.declared.vessel.Vessel.{Vessel}
@@ -13,8 +14,8 @@ use Rattle.std.specs.declared.option.Option.{Option}
 use Rattle.std.specs.declared.result.Result.{Result}
 use Rattle.elementary.specs.declared.error.Refusal.{Refusal}
 use Rattle.course.specs.declared.Avoidance.{Avoidance}
-use Rattle.manoeuvre.specs.declared.Side.{Side}
-use Rattle.manoeuvre.specs.declared.Side.TheVariants.{Starboard, Port}
+use Rattle.motion.specs.declared.side.Side.{Side}
+use Rattle.motion.specs.declared.side.Side.TheVariants.{Starboard, Port}
 use Rattle.constraints.specs.declared.ManoeuvreConstraints.{ManoeuvreConstraints}
 use Rattle.constraints.specs.Constraints.{permits_starboard, permits_port}
 use Rattle.trials.specs.Trials.{trials}
@@ -30,8 +31,8 @@ courses_in (Ok a) = a
 courses_in (Err why) = no_courses
 
 -- on that side, raised to least
-unfoldable pub raised : Float → Float → Float
-raised least a = cond (lt a least) least a
+abbrev pub raised : Float → Float → Float
+raised least a = larger a least
 
 unfoldable pub seed_by : Side → Float → Float → Option Float
 seed_by side least alteration = cond (lt zero (signed side alteration)) (Some (raised least (abs alteration))) None

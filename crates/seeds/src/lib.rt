@@ -4,174 +4,123 @@
 
 ghost use Rattle.std.specs.Prelude.{◌≡◌};
 ghost use Rattle.choice.specs.Choice as Choosing;
-ghost use Rattle.clearing.specs.Clearing as Clearing;
 ghost use Rattle.trials.specs.Trials.{trials};
 ghost use Rattle.seeds.specs.Seeds as Spec;
 
-use choice::{Chosen, Sides};
-use clearing::Scene;
+use choice::{Chosen, Search, Sides};
 use constraints::ManoeuvreConstraints;
 use course::Avoidance;
 use elementary::error::Refusal;
-use manoeuvre::Side;
+use motion::side::Side;
 use motion::units::Direction;
 use motion::vessel::Vessel;
+use passages::Moving;
 
 // The courses of an answer, none on either side where it is refused.
 pub fn courses_in(answer: Result<Avoidance, Refusal>) -> Avoidance
     ensures { result ≡ Spec.courses_in answer }
 {
-    match answer {
-        Ok(a) => a,
-        Err(why) => Avoidance {
-            starboard: None,
-            port: None,
-        },
-    }
-}
-
-fn raised(least: f64, a: f64) -> f64
-    ensures { result ≡ Spec.raised least a }
-{
-    if a < least {
-        return least;
-    }
-    a
+    answer.unwrap_or(Avoidance {
+        starboard: None,
+        port: None,
+    })
 }
 
 // An alteration that is on the side, raised to least.
+#[tactic(auto, unfolding(crate::specs::Seeds::seed_by))]
 fn seed_by(side: Side, least: f64, alteration: f64) -> Option<f64>
     ensures { result ≡ Spec.seed_by side least alteration }
 {
     let towards = choice::signed(side, alteration);
     if towards > 0.0 {
-        return Some(raised(least, math::abs(alteration)));
+        Some(math::larger(math::abs(alteration), least))
+    } else {
+        None
     }
-    None
 }
 
 fn seed_on(own: Direction, side: Side, least: f64, a: Option<Direction>) -> Option<f64>
     ensures { result ≡ Spec.seed_on own side least a }
 {
-    match a {
-        None => None,
-        Some(course) => seed_by(side, least, angle::wrap180(course.0 - own.0)),
-    }
+    seed_by(side, least, angle::wrap180(a?.0 - own.0))
 }
 
 fn only(side: Side) -> Sides
     ensures { result ≡ Spec.only side }
 {
-    match side {
-        Side::Starboard => Sides {
-            starboard: true,
-            port: false,
-        },
-        Side::Port => Sides {
-            starboard: false,
-            port: true,
-        },
+    Sides {
+        starboard: matches!(side, Side::Starboard),
+        port: matches!(side, Side::Port),
     }
 }
 
 // The seed, where it is not above most and clears.
-fn try_seed(
-    own: Vessel,
-    scene: Scene,
-    floor: f64,
-    side: Side,
-    most: f64,
-    seed: Option<f64>,
-) -> Option<Chosen>
-    ensures { result ≡ Spec.seed_choice (Choosing.clears_on own floor (Clearing.movings scene) side) side most seed }
+fn try_seed(search: &Search<'_>, side: Side, most: f64, seed: Option<f64>) -> Option<Chosen>
+    ensures { result ≡ Spec.seed_choice (Choosing.clears_on search.now.own search.now.floor search.now.scene.now side) side most seed }
 {
-    match seed {
-        None => None,
-        Some(m) => choice::try_side(own, scene, floor, m <= most, side, m),
-    }
+    let m = seed?;
+    search.try_side(m <= most, side, m)
 }
 
 // A side's choice: its seed, else the first of its trial list that clears.
+#[tactic(auto, using(crate::proofs::Steps::trials_alone), unfolding(crate::specs::Seeds::seeded_side))]
 fn on_side(
-    own: Vessel,
-    scene: Scene,
-    floor: f64,
+    search: &Search<'_>,
     permitted: bool,
     side: Side,
     seed: Option<f64>,
     least: f64,
     most: f64,
 ) -> Option<Chosen>
-    ensures { result ≡ Spec.seeded_side permitted (Choosing.clears_on own floor (Clearing.movings scene) side) side most seed (trials least most) }
+    ensures { result ≡ Spec.seeded_side permitted (Choosing.clears_on search.now.own search.now.floor search.now.scene.now side) side most seed (trials least most) }
 {
-    if permitted {
-        let first = try_seed(own, scene, floor, side, most, seed);
-        match first {
-            Some(c) => {
-                return Some(c);
-            }
-            None => {
-                return choice::smallest(own, scene, floor, only(side), least, most);
-            }
-        }
+    if !permitted {
+        return None;
     }
-    None
+    match try_seed(search, side, most, seed) {
+        Some(c) => Some(c),
+        None => search.smallest(only(side), least, most),
+    }
 }
 
 // Starboard's choice and port's: the smaller, starboard on equality.
 fn smaller_of(starboard: Option<Chosen>, port: Option<Chosen>) -> Option<Chosen>
     ensures { result ≡ Choosing.smaller starboard port }
 {
-    match starboard {
-        None => port,
-        Some(s) => match port {
-            None => Some(s),
-            Some(p) => {
-                if p.magnitude.0 < s.magnitude.0 {
-                    return Some(p);
-                }
-                Some(s)
-            }
-        },
+    match (starboard, port) {
+        (Some(s), Some(p)) if p.magnitude.0 < s.magnitude.0 => port,
+        (None, _) => port,
+        _ => starboard,
     }
 }
 
 // The smaller of both sides' choices, starboard on equality.
+#[tactic(auto, unfolding(crate::specs::Seeds::seeded_choice))]
 pub fn seeded_choice(
-    own: Vessel,
-    scene: Scene,
-    floor: f64,
+    search: &Search<'_>,
     courses: Avoidance,
     c: ManoeuvreConstraints,
 ) -> Option<Chosen>
-    ensures { result ≡ Spec.seeded_choice own (Choosing.clears_on own floor (Clearing.movings scene)) courses c }
+    ensures { result ≡ Spec.seeded_choice search.now.own (Choosing.clears_on search.now.own search.now.floor search.now.scene.now) courses c }
 {
     let sides = c.sides();
     let least = c.least_alteration();
     let most = c.most_alteration();
-    let to_starboard = courses.starboard;
-    let to_port = courses.port;
-    let starboard_seed = seed_on(own.course, Side::Starboard, least.0, to_starboard);
-    let port_seed = seed_on(own.course, Side::Port, least.0, to_port);
+    let starboard_seed = seed_on(
+        search.own.course,
+        Side::Starboard,
+        least.0,
+        courses.starboard,
+    );
+    let port_seed = seed_on(search.own.course, Side::Port, least.0, courses.port);
     let starboard = on_side(
-        own,
-        scene,
-        floor,
+        search,
         sides.starboard(),
         Side::Starboard,
         starboard_seed,
         least.0,
         most.0,
     );
-    let port = on_side(
-        own,
-        scene,
-        floor,
-        sides.port(),
-        Side::Port,
-        port_seed,
-        least.0,
-        most.0,
-    );
+    let port = on_side(search, sides.port(), Side::Port, port_seed, least.0, most.0);
     smaller_of(starboard, port)
 }

@@ -3,31 +3,29 @@
 
 ghost use Rattle.std.specs.Prelude.{◌≡◌};
 ghost use Rattle.arguments.specs.Check as Check;
-ghost use Rattle.sheet_record.specs.Record as Record;
-ghost use Rattle.traffic.specs.Traffic as Around;
 ghost use Rattle.sheet.specs.Sheet as Spec;
 
 use elementary::error::Refusal;
 use motion::units::{Angle, Distance};
-use sheet_record::{Header, Rows};
+use sheet_record::{Header, Row};
 use sheet_values::scaled;
 use situation::check;
 use time::Duration;
-use traffic::Traffic;
+use traffic::Entry;
 
 // The categories of the contacts (number 16).
-fn check_categories(rows: Rows) -> Result<(), Refusal>
-    ensures { result ≡ Check.checked (Spec.category_checks (Record.rows rows)) }
+fn check_categories(rows: &[Row]) -> Result<(), Refusal>
+    ensures { result ≡ Check.checked (Spec.category_checks rows.now) }
 {
-    for row in &rows.list[..room::held(rows.count)] {
+    for row in rows {
         arguments::ensure(row.category <= 7, Refusal::UnknownCode)?;
     }
     Ok(())
 }
 
 // Own category, the visibility, the categories of the contacts.
-fn check_codes(h: Header, rows: Rows) -> Result<(), Refusal>
-    ensures { result ≡ Check.checked (Spec.code_checks h (Record.rows rows)) }
+fn check_codes(h: Header, rows: &[Row]) -> Result<(), Refusal>
+    ensures { result ≡ Check.checked (Spec.code_checks h rows.now) }
 {
     arguments::ensure(h.category <= 7, Refusal::UnknownCode)?;
     arguments::ensure(h.visibility <= 1, Refusal::UnknownCode)?;
@@ -47,8 +45,8 @@ fn check_limits(h: Header) -> Result<(), Refusal>
 }
 
 // Own craft, the desired distance, the least and the most alteration, the limits, the wind, and the contacts one by one.
-fn check_values(h: Header, t: Traffic) -> Result<(), Refusal>
-    ensures { result ≡ Check.checked (Spec.value_checks h (Around.contacts t)) }
+fn check_values(h: Header, t: &[Entry]) -> Result<(), Refusal>
+    ensures { result ≡ Check.checked (Spec.value_checks h t.now) }
 {
     let own = sheet_values::own_of(h);
     let least = Angle(scaled(h.least));
@@ -69,6 +67,6 @@ pub fn check_sheet(bytes: &[u8]) -> Result<(), Refusal>
     sheet_record::check_layout(bytes)?;
     let h = sheet_record::header_of(bytes);
     let rows = sheet_record::rows_of(bytes);
-    check_codes(h, rows)?;
-    check_values(h, sheet_values::traffic_of(rows))
+    check_codes(h, &rows)?;
+    check_values(h, &sheet_values::traffic_of(&rows))
 }

@@ -2,30 +2,23 @@
 #![tactic(auto)]
 
 ghost use Rattle.std.specs.Prelude.{◌≡◌};
-ghost use Rattle.sheet_record.specs.Record as Record;
 ghost use Rattle.sheet_limits.specs.Limits as Spec;
 
 use constraints::{ManoeuvreConstraints, PermittedSides};
 use elementary::error::Refusal;
 use motion::units::{Angle, Distance};
 use policy::CpaPolicy;
-use sheet_record::{Header, Rows};
+use sheet_record::{Header, Row};
 use sheet_values::scaled;
 use time::Duration;
 
 // The id of the limiting contact, 0 where there is none.
-pub fn id_at(rows: Rows, limiting: Option<usize>) -> u32
-    ensures { result ≡ Spec.id_at (Record.rows rows) limiting }
+pub fn id_at(rows: &[Row], limiting: Option<usize>) -> u32
+    ensures { result ≡ Spec.id_at rows.now limiting }
 {
     match limiting {
-        None => 0,
-        Some(place) => {
-            if place < room::held(rows.count) {
-                let row = rows.list[place];
-                return row.id;
-            }
-            0
-        }
+        Some(place) if place < rows.len() => rows[place].id,
+        _ => 0,
     }
 }
 

@@ -3,11 +3,12 @@
 // oracle's own reading and printing gives. How both are made is said in docs/COMPARISON.md.
 #![tactic(auto)]
 
-ghost use Rattle.std.specs.Prelude.{◌≤◌, ◌++◌, ◌∷◌, [], IfOk, OnOk, length};
+ghost use Rattle.std.specs.Prelude.{◌≤◌, ◌++◌, ◌∷◌, [], OnOk};
 ghost use Rattle.std.specs.Io.KnownBytes.{Appends};
 ghost use Rattle.report.specs.Report.{report};
 
-use std::io::{self, Read, Write};
+use sheet_io::{print_report, read_full};
+use std::io::{self, Write};
 
 // Room for a sheet that is too long.
 const ROOM: usize = 4200;
@@ -23,37 +24,22 @@ fn digit(b: u8) -> u8
 }
 
 // Prints the report on a sheet and an empty line.
-fn print_report<W: Write>(output: &mut W, sheet: &[u8]) -> io::Result<()>
+fn print_spaced<W: Write>(output: &mut W, sheet: &[u8]) -> io::Result<()>
     ensures { OnOk result
         (Appends (W.contents output.old) (W.contents output.new) (report sheet.now ++ 10 ∷ [])) }
 {
-    let t = report::report(sheet);
-    let bytes = t.bytes;
-    let n = t.size();
-    output.write_all(&bytes[..n])?;
+    print_report(output, sheet)?;
     output.write_all(b"\n")
-}
-
-// A number of bytes, at most the room.
-fn held(n: usize) -> usize
-    ensures { (result ≤ n) × (result ≤ 4200) }
-{
-    if n < ROOM {
-        return n;
-    }
-    ROOM
 }
 
 // Prints the report on the sheet that a line of digits spells.
 fn print_line<W: Write>(output: &mut W, line: &[u8]) -> io::Result<()> {
     let mut sheet = [0u8; ROOM];
-    let n = held(line.len() / 2);
-    for i in 0..n {
-        let high = line[2 * i];
-        let low = line[2 * i + 1];
-        sheet[i] = digit(high) * 16 + digit(low);
+    let (pairs, _) = line.as_chunks::<2>();
+    for (byte, pair) in sheet.iter_mut().zip(pairs) {
+        *byte = digit(pair[0]) * 16 + digit(pair[1]);
     }
-    print_report(output, &sheet[..n])
+    print_spaced(output, &sheet[..pairs.len().min(ROOM)])
 }
 
 // The sheets of the input, a line each, one after the other.
@@ -65,22 +51,6 @@ fn replay<W: Write>(output: &mut W, input: &[u8]) -> io::Result<()> {
         rest = &rest[rest.len().min(end + 1)..];
     }
     Ok(())
-}
-
-// Reads until `buf` is full or the input ends, and answers how many bytes it read.
-fn read_full<R: Read>(input: &mut R, buf: &mut [u8]) -> io::Result<usize>
-    ensures { IfOk result (λ n. n ≤ length buf.new) }
-{
-    let room = buf.len();
-    let mut done: usize = 0;
-    while done < room {
-        let more = input.read(&mut buf[done..])?;
-        if more == 0 {
-            return Ok(done);
-        }
-        done += more;
-    }
-    Ok(done)
 }
 
 fn main(rt: HostRuntime) -> io::Result<()> {

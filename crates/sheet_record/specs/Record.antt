@@ -1,5 +1,5 @@
 -- A sheet's words as a record of whole numbers (01, 'Encounter sheet and its program': the order of the words; 'checks: 15, 14, …'; R-1: 'the header record … gain[s] that wind').
-use Rattle.std.specs.Prelude.{cond, List, [], ◌∷◌, ◌++◌, ℕ, zero, suc, ◌+◌, ◌-◌, ◌*◌, ◌/◌, ◌%◌, min, leb, length, get_or, take, None, Some, Err, Ok}
+use Rattle.std.specs.Prelude.{cond, List, [], ◌∷◌, ◌++◌, ℕ, zero, suc, ◌+◌, ◌-◌, ◌*◌, ◌/◌, ◌%◌, min, leb, length, get_or, None, Some, Err, Ok}
 use Rattle.elementary.specs.declared.error.Refusal.TheVariants as Why
 use Rattle.room.specs.Room.{max_contacts}
 use Rattle.sheet_words.specs.Word.{words, value, has_wind, header_length, layout}
@@ -8,7 +8,6 @@ use Rattle.std.specs.declared.result.Result.{Result}
 use Rattle.elementary.specs.declared.error.Refusal.{Refusal}
 use Rattle.sheet_record.specs.declared.Header.{Header}
 use Rattle.sheet_record.specs.declared.Row.{Row}
-use Rattle.sheet_record.specs.declared.Rows.{Rows}
 
 -- the value of word i, 0 where there is none
 abbrev pub value_at : List ℕ → ℕ → ℕ
@@ -57,9 +56,6 @@ first_rows ws (suc n) = first_rows ws n ++ (row_from ws (header_length ws + 6 * 
 -- as many as there is room for
 unfoldable pub rows_of : List ℕ → List Row
 rows_of ws = first_rows ws (min (contact_count ws) max_contacts)
-
-unfoldable pub rows : Rows → List Row
-rows r = take r.count r.list
 
 unfoldable pub readable : List ℕ → Result (Unit {0}) Refusal
 readable s = cond (layout s) (cond (leb (contact_count (words s)) max_contacts) (Ok tt) (Err Why.TooManyContacts)) (Err Why.Layout)

@@ -1,14 +1,16 @@
 // An encounter sheet as a record of whole numbers, as they stand in its words: the header and up to MAX_CONTACTS contacts.
 #![tactic(auto)]
 
-ghost use Rattle.std.specs.Prelude.{◌≡◌, length, take};
+ghost use Rattle.std.specs.Prelude.{◌≡◌};
 ghost use Rattle.sheet_words.specs.Word as Words;
 ghost use Rattle.sheet_record.specs.Record as Spec;
 
+use arrayvec::ArrayVec;
 use elementary::error::Refusal;
 use room::MAX_CONTACTS;
 
-// Angles, speeds and distances count 1/1024, the TCPA limit seconds.
+// Angles, speeds and distances count 1/1024, the TCPA limit seconds. Categories and the visibility are numbers: a record has what the words
+// say, also what the checks refuse (number 16).
 #[derive(Clone, Copy)]
 pub struct Header {
     pub course: u32,
@@ -23,7 +25,7 @@ pub struct Header {
     pub wind: Option<u32>,
 }
 
-#[derive(Clone, Copy)]
+#[derive(Clone, Copy, Default)]
 pub struct Row {
     pub id: u32,
     pub bearing: u32,
@@ -31,13 +33,6 @@ pub struct Row {
     pub course: u32,
     pub speed: u32,
     pub category: u32,
-}
-
-// The first `count` of the list.
-#[derive(Clone, Copy)]
-pub struct Rows {
-    pub count: usize,
-    pub list: [Row; MAX_CONTACTS],
 }
 
 // The value of word i.
@@ -103,21 +98,15 @@ fn row_from(bytes: &[u8], i: usize) -> Row
 }
 
 // The contacts of a sheet, as many as there is room for.
-pub fn rows_of(bytes: &[u8]) -> Rows
-    ensures counted { result.count ≡ length (Spec.rows_of (Words.words bytes.now)) }
-    ensures listed { Spec.rows result ≡ Spec.rows_of (Words.words bytes.now) }
+pub fn rows_of(bytes: &[u8]) -> ArrayVec<Row, MAX_CONTACTS>
+    ensures { result.items ≡ Spec.rows_of (Words.words bytes.now) }
 {
     let n = room::held(contact_count(bytes));
     let first = sheet_words::header_length(bytes);
-    let mut rows = Rows {
-        count: 0,
-        list: [row_from(bytes, first); MAX_CONTACTS],
-    };
+    let mut rows = ArrayVec::new();
     for i in 0..n {
-        let row = row_from(bytes, first + 6 * i);
-        rows.list[i] = row;
+        rows.push(row_from(bytes, first + 6 * i));
     }
-    rows.count = n;
     rows
 }
 

@@ -1,3 +1,2 @@
 -- What the values of a sheet owe.
 pub mod Exactly
-pub mod Filling

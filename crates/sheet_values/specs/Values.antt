@@ -1,14 +1,13 @@
 -- What a sheet's numbers stand for (01, 'Encounter sheet and its program': 'angles, speeds, distances count 1/1024'; 'categories: 0 power, 1 sailing, tack unknown, 2 port tack, 3 starboard tack, 4 fishing, 5 draught, 6 restricted, 7 not under command'; 'visibility (0 in sight, 1 restricted)'; R-1: 'where the wind comes from, in 1/1024 degree').
-use Rattle.std.specs.Prelude.{ℕ, cond, pos, ◌==◌, from_bits, Float, None, Some}
+use Rattle.std.specs.Prelude.{ℕ, pos, from_bits, Float, None, Some}
 use Rattle.std.specs.Float.{binary64}
 use Rattle.std.specs.Float.Ieee.{of_int}
 use Rattle.laws.specs.Ops.{◌⊘◌}
 use Rattle.motion.specs.declared.vessel.Vessel.{Vessel}
 use Rattle.situation.specs.declared.party.Tack.TheVariants as Tack
 use Rattle.situation.specs.declared.party.VesselCategory.{VesselCategory}
-use Rattle.situation.specs.declared.party.VesselCategory.TheVariants.{PowerDriven, Sailing, Fishing, ConstrainedByDraught, RestrictedInAbilityToManoeuvre, NotUnderCommand}
-use Rattle.situation.specs.declared.party.Visibility.{Visibility}
-use Rattle.situation.specs.declared.party.Visibility.TheVariants.{InSight, Restricted}
+use Rattle.situation.specs.Codes.{category_by}
+unfoldable pub use Rattle.situation.specs.Codes.{visibility_of}
 use Rattle.situation.specs.declared.party.Party.{Party}
 use Rattle.std.specs.declared.option.Option.{Option}
 use Rattle.motion.specs.declared.units.Direction.{Direction}
@@ -24,23 +23,16 @@ unfoldable pub scaled : ℕ → Float
 scaled n = of_int binary64 (pos n) ⊘ parts
 
 unfoldable pub category_of : ℕ → VesselCategory
-category_of code =
-    cond (code == 0) PowerDriven
-    (cond (code == 1) (Sailing Tack.Unknown)
-    (cond (code == 2) (Sailing Tack.Port)
-    (cond (code == 3) (Sailing Tack.Starboard)
-    (cond (code == 4) Fishing
-    (cond (code == 5) ConstrainedByDraught
-    (cond (code == 6) RestrictedInAbilityToManoeuvre NotUnderCommand))))))
-
-unfoldable pub visibility_of : ℕ → Visibility
-visibility_of code = cond (code == 0) InSight Restricted
+category_of code = category_by Tack.Unknown Tack.Port Tack.Starboard code
 
 unfoldable pub vessel_of : ℕ → ℕ → Vessel
 vessel_of course speed = record { course = record { 0 = scaled course }; speed = record { 0 = scaled speed } }
 
+abbrev pub party : ℕ → ℕ → VesselCategory → Party
+party course speed category = record { motion = vessel_of course speed; heading = None; category = category }
+
 unfoldable pub party_of : ℕ → ℕ → ℕ → Party
-party_of course speed category = record { motion = vessel_of course speed; heading = None; category = category_of category }
+party_of course speed code = party course speed (category_of code)
 
 unfoldable pub own_of : Header → Party
 own_of h = party_of h.course h.speed h.category

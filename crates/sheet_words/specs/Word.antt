@@ -1,5 +1,6 @@
 -- A sheet's bytes as words (01, 'Encounter sheet and its program': 'little-endian 32-bit words; the top 4 bits are the kind, the low 28 the value. … Order, kinds in hexadecimal: 0 own course, … 8 TCPA limit (seconds); per contact 9 id, … E category'; 'at most 4,096 bytes (more: 15)'; R-1: 'an optional word of kind F follows the TCPA limit').
 use Rattle.std.specs.Prelude.{Bool, ◌&&◌, cond, List, [], ◌∷◌, ℕ, ◌+◌, ◌*◌, ◌/◌, ◌%◌, eqb, ltb, leb, length, get_or, take, drop}
+use Rattle.sheet_words.specs.declared.Kind.{Kind}
 
 abbrev pub word_of : ℕ → ℕ → ℕ → ℕ → ℕ
 word_of a b c d = a + b * 256 + c * 65536 + d * 16777216
@@ -18,6 +19,25 @@ word_from s p = word_of (get_or s p 0) (get_or s (p + 1) 0) (get_or s (p + 2) 0)
 
 abbrev pub kind : ℕ → ℕ
 kind w = w / 268435456
+
+-- the kinds by their names
+unfoldable pub number : Kind → ℕ
+number Kind.OwnCourse = 0
+number Kind.OwnSpeed = 1
+number Kind.OwnCategory = 2
+number Kind.Visibility = 3
+number Kind.Desired = 4
+number Kind.Least = 5
+number Kind.Most = 6
+number Kind.CpaLimit = 7
+number Kind.TcpaLimit = 8
+number Kind.Id = 9
+number Kind.Bearing = 10
+number Kind.Range = 11
+number Kind.Course = 12
+number Kind.Speed = 13
+number Kind.Category = 14
+number Kind.Wind = 15
 
 abbrev pub value : ℕ → ℕ
 value w = w % 268435456

@@ -8,6 +8,38 @@ ghost use Rattle.sheet_words.specs.Word as Spec;
 // The largest sheet that is read, in bytes.
 pub const MAX_BYTES: usize = 4096;
 
+// The kinds of words, by their numbers in the top four bits.
+#[derive(Clone, Copy)]
+pub enum Kind {
+    OwnCourse = 0,
+    OwnSpeed = 1,
+    OwnCategory = 2,
+    Visibility = 3,
+    Desired = 4,
+    Least = 5,
+    Most = 6,
+    CpaLimit = 7,
+    TcpaLimit = 8,
+    Id = 9,
+    Bearing = 10,
+    Range = 11,
+    Course = 12,
+    Speed = 13,
+    Category = 14,
+    Wind = 15,
+}
+
+impl Kind {
+    // Its number.
+    #[tactic(auto, unfolding(crate::specs::Word::number))]
+    pub fn number(self) -> u32
+        ensures number { result ≡ Spec.number self }
+        ensures bits { result ≤ 15 }
+    {
+        self as u32
+    }
+}
+
 fn wide(b: u8) -> u32
     ensures { (result ≡ b) × (result < 256) }
 {
@@ -50,7 +82,7 @@ pub fn value_of(word: u32) -> u32
     word % 268435456
 }
 
-// The kind that follows one.
+// The kind that follows one. It stays a number: document 01 gives the order of the words by the numbers of their kinds.
 fn next_kind(kind: u32) -> u32
     ensures { result ≡ Spec.next_kind kind }
 {

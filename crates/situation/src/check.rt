@@ -9,6 +9,7 @@ use elementary::error::Refusal;
 use motion::units::{Angle, Direction};
 
 // A direction where it is known (number 1).
+#[tactic(auto, unfolding(arguments::specs::Check::verdict))]
 pub fn check_perhaps(p: Option<Direction>) -> Result<(), Refusal>
     ensures { result ≡ Check.checked (Spec.perhaps_checks p) }
 {
@@ -19,6 +20,7 @@ pub fn check_perhaps(p: Option<Direction>) -> Result<(), Refusal>
 }
 
 // A party's course, speed and heading.
+#[tactic(auto, unfolding(crate::specs::Arguments::party_checks, arguments::specs::Check::verdict))]
 pub fn check_party(p: Party) -> Result<(), Refusal>
     ensures { result ≡ Check.checked (Spec.party_checks p) }
 {
@@ -27,6 +29,7 @@ pub fn check_party(p: Party) -> Result<(), Refusal>
 }
 
 // From 0 to 90 degrees.
+#[tactic(auto, unfolding(crate::specs::Arguments::is_width))]
 fn is_width(a: Angle) -> bool
     ensures { result ≡ Spec.is_width a }
 {
@@ -34,6 +37,7 @@ fn is_width(a: Angle) -> bool
 }
 
 // Both widths, 0 to 90 degrees (number 12).
+#[tactic(auto, unfolding(arguments::specs::Check::verdict))]
 pub fn check_config(c: ColregsConfig) -> Result<(), Refusal>
     ensures { result ≡ Check.checked (Spec.config_checks c) }
 {

@@ -3,5 +3,6 @@
 #![tactic(auto)]
 
 pub mod check;
+pub mod code;
 pub mod config;
 pub mod party;

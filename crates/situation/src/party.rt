@@ -13,8 +13,9 @@ pub enum Tack {
     Unknown,
 }
 
-#[derive(Clone, Copy)]
+#[derive(Clone, Copy, Default)]
 pub enum VesselCategory {
+    #[default]
     PowerDriven,
     Sailing { tack: Tack },
     Fishing,
@@ -24,7 +25,7 @@ pub enum VesselCategory {
 }
 
 // A vessel in an encounter: how she moves, where she heads if that is known, what she is.
-#[derive(Clone, Copy)]
+#[derive(Clone, Copy, Default)]
 pub struct Party {
     pub motion: Vessel,
     pub heading: Option<Direction>,
@@ -47,13 +48,13 @@ pub struct Situation {
 }
 
 impl VesselCategory {
-    // The rank of a category: of two, the lower one keeps out of the way.
+    // The rank of a category: of two, the lower one keeps out of the way. Written out: a derived order would rank sailing vessels by their tacks.
     pub fn precedence(self) -> u8
         ensures { result ≡ Spec.precedence self }
     {
         match self {
             VesselCategory::PowerDriven => 0,
-            VesselCategory::Sailing { tack } => 1,
+            VesselCategory::Sailing { .. } => 1,
             VesselCategory::Fishing => 2,
             VesselCategory::ConstrainedByDraught => 3,
             VesselCategory::RestrictedInAbilityToManoeuvre => 4,
@@ -64,6 +65,7 @@ impl VesselCategory {
 
 impl Party {
     // A vessel that heads where she goes.
+    #[tactic(auto, unfolding(crate::specs::Situation::party))]
     pub fn new(motion: Vessel, category: VesselCategory) -> Party
         ensures { result ≡ Spec.party motion category }
     {
@@ -75,6 +77,7 @@ impl Party {
     }
 
     // The same vessel, heading as given.
+    #[tactic(auto, unfolding(crate::specs::Situation::with_heading))]
     pub fn with_heading(self, heading: Direction) -> Party
         ensures { result ≡ Spec.with_heading self heading }
     {
@@ -85,6 +88,7 @@ impl Party {
     }
 
     // The heading, the course where it is unknown.
+    #[tactic(auto, unfolding(crate::specs::Situation::heading))]
     pub fn heading(self) -> Direction
         ensures { result ≡ Spec.heading self }
     {
@@ -94,6 +98,7 @@ impl Party {
 
 impl Situation {
     // A situation of unknown wind.
+    #[tactic(auto, unfolding(crate::specs::Situation::situation))]
     pub fn new(own: Party, target: Party, contact: Contact, visibility: Visibility) -> Situation
         ensures { result ≡ Spec.situation own target contact visibility }
     {
@@ -107,6 +112,7 @@ impl Situation {
     }
 
     // The same situation with the wind from where it is given.
+    #[tactic(auto, unfolding(crate::specs::Situation::with_wind_from))]
     pub fn with_wind_from(self, from: Direction) -> Situation
         ensures { result ≡ Spec.with_wind_from self from }
     {

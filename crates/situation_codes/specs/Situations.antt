@@ -4,10 +4,10 @@ use Rattle.situation.specs.declared.party.Party.{Party}
 use Rattle.situation.specs.declared.party.Situation.{Situation}
 use Rattle.situation.specs.Situation as Parties
 use Rattle.words.specs.Words.{contact}
-use Rattle.codes.specs.Codes.{visibility, party}
+use Rattle.codes.specs.Codes.{visibility_of, party}
 
 unfoldable pub meeting : Party → Party → Float → Float → ℕ → Situation
-meeting own target bearing range code = Parties.situation own target (contact bearing range) (visibility code)
+meeting own target bearing range code = Parties.situation own target (contact bearing range) (visibility_of code)
 
 unfoldable pub with_wind : Situation → ℕ → Float → Situation
 with_wind s known from = cond (eqb known 0) s (Parties.with_wind_from s (record { 0 = from }))

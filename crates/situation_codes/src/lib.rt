@@ -8,9 +8,10 @@ ghost use Rattle.std.specs.Prelude.{◌≡◌};
 ghost use Rattle.situation_codes.specs.Situations as Spec;
 
 use motion::units::Direction;
-use situation::party::{Party, Situation};
+use situation::party::{Party, Situation, Visibility};
 
 // The situation in which the two meet, before the wind is said.
+#[tactic(auto, unfolding(crate::specs::Situations::meeting))]
 fn meeting(own: Party, target: Party, bearing: f64, range: f64, code: u32) -> Situation
     ensures { result ≡ Spec.meeting own target bearing range code }
 {
@@ -18,10 +19,11 @@ fn meeting(own: Party, target: Party, bearing: f64, range: f64, code: u32) -> Si
         own,
         target,
         words::contact(bearing, range),
-        codes::visibility(code),
+        Visibility::from(code),
     )
 }
 
+#[tactic(auto, unfolding(crate::specs::Situations::with_wind))]
 fn with_wind(s: Situation, known: u32, from: f64) -> Situation
     ensures { result ≡ Spec.with_wind s known from }
 {
@@ -33,6 +35,7 @@ fn with_wind(s: Situation, known: u32, from: f64) -> Situation
 
 // The situation of two parties, the contact's bearing and range, and the wind. Angles are in degrees, speeds in knots, the range in
 // nautical miles.
+#[tactic(auto, unfolding(crate::specs::Situations::situation))]
 pub fn situation(
     codes: u32,
     oc: f64,

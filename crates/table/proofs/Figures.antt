@@ -35,7 +35,7 @@ use Rattle.colregs.specs.declared.answer.Ruling.{Ruling}
 use Rattle.constraints.specs.declared.PermittedSides.{PermittedSides}
 use Rattle.constraints.specs.declared.PermittedSides.TheVariants as Sides
 use Rattle.constraints.specs.declared.ManoeuvreConstraints.{ManoeuvreConstraints}
-use Rattle.manoeuvre.specs.declared.Side.{Side}
+use Rattle.motion.specs.declared.side.Side.{Side}
 use Rattle.constraints.specs.Constraints.{with_rate_of_turn}
 use Rattle.traffic.specs.declared.Entry.{Entry}
 use Rattle.rulings.specs.declared.RuledManoeuvre.{RuledManoeuvre}

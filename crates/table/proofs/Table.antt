@@ -41,9 +41,8 @@ use Rattle.arguments.specs.Check.{encounter_checks, is_direction, is_distance, i
 use Rattle.elementary.specs.declared.error.Refusal.TheVariants as Refusal
 use Rattle.relative_motion.specs.declared.approach.Approach.TheVariants as Approach
 use Rattle.risk.specs.declared.CollisionRisk.TheVariants as Risk
-use Rattle.manoeuvre.specs.declared.Side.TheVariants as Turn
 use Rattle.relative_motion.specs.Approach.{approach, approach_from, closest, closing_rate, cpa_answer, cpa_number, relative_speed, time_of, time_to_go}
-use Rattle.bow.specs.Bow.{bow_answer, bow_number, crossing, determinant, not_negative}
+use Rattle.bow.specs.Bow.{bow_answer, bow_number, crossing, determinant}
 use Rattle.plot.specs.Plot.{plot_answer, plot_checks, plot_number, plot_verdict, relative_motion, solution, solved}
 use Rattle.plot.specs.Plot as plots
 use Rattle.course.specs.Course.{along, at_speed, avoidance_of, choice_of, clamped, course_answer, course_for, course_number, grazing, offered}
@@ -55,7 +54,7 @@ use Rattle.colregs.specs.Colregs.{abaft, decided, encounter_of, forward_of_beam,
 use Rattle.colregs.specs.declared.answer.Encounter.TheVariants.{BeingOvertaken, Crossing, HeadOn, Overtaking}
 use Rattle.colregs.specs.declared.answer.Responsibility.TheVariants.{Both, GiveWay, StandOn, Undetermined}
 use Rattle.colregs.specs.declared.answer.Rule.TheVariants.{Rule12, Rule13, Rule14, Rule15, Rule17, Rule19}
-use Rattle.colregs.specs.declared.answer.Side.TheVariants.{Port, Starboard}
+use Rattle.motion.specs.declared.side.Side.TheVariants.{Port, Starboard}
 use Rattle.policy.specs.Policy.{policy_answer}
 use Rattle.risk.specs.Risk.{drift_of, drift_per_hour, rank, risk_at}
 use Rattle.assessment.specs.Assess.{assess_answer, assessment}
@@ -69,12 +68,13 @@ use Rattle.choice.specs.Choice.{choice, choice_for, first, or_first, side_choice
 use Rattle.rulings.specs.Ruled.{answered, in_both, ruled, ruled_answer, ruled_checks, ruled_number, shared_sides, sides_of}
 use Rattle.sheet_words.specs.Word.{in_order, layout, ordered, words}
 use Rattle.sheet_record.specs.Record.{contact_count, first_rows, header_of, readable, row_from, rows_of}
+use Rattle.situation.specs.Codes.{category_by}
 use Rattle.sheet_values.specs.Values.{category_of, entry_of, own_of, party_of, vessel_of, visibility_of, wind_from}
 use Rattle.sheet_values.specs.Values as values
 use Rattle.sheet.specs.Sheet.{category_checks, code_checks, sheet_verdict, value_checks}
 use Rattle.lines.specs.Lines.{alter_line, contact_line, refused_line}
 use Rattle.ruling_laws.proofs.Rows.{contact, direction, heads, number, power, refuses, rules, seen, unseen, wind}
-use Rattle.avoid.specs.Avoid.{avoid_answer, avoid_checks, avoided, raised, seed_by, seeded_choice, seeded_side}
+use Rattle.avoid.specs.Avoid.{avoid_answer, avoid_checks, avoided, seed_by, seeded_choice, seeded_side}
 use Rattle.contact_lines.specs.Contacts.{contact_lines, line_on}
 use Rattle.report.specs.Report.{answer_on, constraints_on, id_at, lines_on, policy_on, report}
 use Rattle.table.proofs.Figures.{ahead, alteration_in, at, between, bits, closing, course_in, courses, degrees, kind, limiting_in, limits, magnitude_in, meets, miles, moving, nearing, none, north, off, on, passing_in, pattern, risk_in, ruling, search, seconds, sheet, side_code, side_in, spelled, time_in, turn, turning, widths, with_rate}
@@ -226,12 +226,12 @@ table =
     ∷ says (contact_line 12 (Approach.Stationary (record { 0 = bits 0x408f_ffff_0000_0000 })) Risk.Opening (ruling HeadOn Both Rule14)) "CONTACT 12 STATIONARY 1024.000 - OPENING HEAD-ON BOTH 14\n"
     ∷ says (contact_line 1 (closing 0x8000_0000_0000_0000 0 0) Risk.Developing (ruling (Crossing Starboard) Undetermined Rule12)) "CONTACT 1 CLOSING 0.000 0 DEVELOPING CROSSING-S UNDETERMINED 12\n"
     -- without contacts; to port at 0; refusals
-    ∷ says (alter_line (turn Turn.Starboard 0 0x4066_8000_0000_0000 0x7fef_ffff_ffff_ffff None) 0) "ALTER S 0.000 180.000 FREE NONE\n"
-    ∷ says (alter_line (turn Turn.Port 0 0 0x3ff0_0000_0000_0000 (Some 3)) 21) "ALTER P 0.000 0.000 1.000 21\n"
+    ∷ says (alter_line (turn Starboard 0 0x4066_8000_0000_0000 0x7fef_ffff_ffff_ffff None) 0) "ALTER S 0.000 180.000 FREE NONE\n"
+    ∷ says (alter_line (turn Port 0 0 0x3ff0_0000_0000_0000 (Some 3)) 21) "ALTER P 0.000 0.000 1.000 21\n"
     ∷ says (refused_line Refusal.NoTrialClears) "REFUSED 5\n"
     ∷ says (refused_line Refusal.UnknownCode) "REFUSED 16\n"
     ∷ []
 
 pub holds : every table ≡ true
-unfolding abaft abs add along alter_line altered angle_steps answer_on answered approach approach_from arcsine.arcsine_steps arcsine.arcsine_units arcsine.at_most arcsine.fits_in arcsine.rest arcsine.rest_step arcsine.scale arcsine.scale_from arcsine.upper_steps arctangent_steps asin.asin asin.in_domain aspect_of assess_answer assessment at_speed atan2 avoid_answer avoid_checks avoidance_of avoided both_finite bow_answer bytes category_checks category_of choice choice_for choice_of circular.from_units circular.in_domain circular.scaled clamped clearing clears clock closest closing_rate code_checks constraint_checks constraints_answer constraints_on contact_count contact_line contact_lines contacts_checks cos cosine_divisors cosine_step cosine_units course_answer course_for cpa_answer crossing decided decimal_of degrees_per_radian determinant difference digits_up_to direction_of distance div drift_of drift_per_hour encounter_checks encounter_of entry_checks entry_of eq even facts_of finite first first_rows flat_map floor_of fold folds.turned forward_of_beam from_hours from_seconds grazing greatest greatest_to half_fold header_of heading horner hours_of hypot hypots.in_domain id_at in_both in_order in_range is_accepted is_before is_closing is_direction is_distance is_effectively_zero is_head_on is_speed is_width join larger last layout le line_on lines_on lt manoeuvres.manoeuvre manoeuvres.side_of manoeuvres.turned mul nanos_in neg negative not_above not_negative octant of_bits of_int offered offset or_first ordered own_comes_up own_of own_overtakes party party_checks party_of passage permitted placed plot_answer plot_checks plot_verdict plots.target_of policy_answer policy_on port_by17 port_by19 quarters raised range_rate readable refused_line relative_motion relative_of relative_speed relative_velocity rem removed report resolved rest risk_at round row_from rows_of rule18 ruled ruled_answer ruled_checks ruling_answer ruling_for ruling_of scaled_by seed_by seeded_choice seeded_side shared_sides sheet_verdict side_choice side_of sides_of sin sine_divisors sine_step sine_units situation situation_checks size solution solved speed_of spelled sqrt square starboard_by19 sub table tally target_comes_up target_of target_overtakes thousandths_of three_decimals time_of time_to_go to_bits to_degrees to_radians to_unsigned to_usize trial trial_clears trials trials_from turned_minus turned_units unit units_of up_to value_checks values.scaled velocity verdict vessel_of visibility_of whole_fold wind_from with_heading with_rate_of_turn with_wind_from words
+unfolding abaft abs add along alter_line altered angle_steps answer_on answered approach approach_from arcsine.arcsine_steps arcsine.arcsine_units arcsine.at_most arcsine.fits_in arcsine.rest arcsine.rest_step arcsine.scale arcsine.scale_from arcsine.upper_steps arctangent_steps asin.asin asin.in_domain aspect_of assess_answer assessment at_speed atan2 avoid_answer avoid_checks avoidance_of avoided both_finite bow_answer bytes category_by category_checks category_of choice choice_for choice_of circular.from_units circular.in_domain circular.scaled clamped clearing clears clock closest closing_rate code_checks constraint_checks constraints_answer constraints_on contact_count contact_line contact_lines contacts_checks cos cosine_divisors cosine_step cosine_units course_answer course_for cpa_answer crossing decided decimal_of degrees_per_radian determinant difference digits_up_to direction_of distance div drift_of drift_per_hour encounter_checks encounter_of entry_checks entry_of eq even facts_of first first_rows flat_map floor_of fold folds.turned forward_of_beam from_hours from_seconds grazing greatest greatest_to half_fold header_of heading horner hours_of hypot hypots.in_domain id_at in_both in_order in_range is_accepted is_before is_closing is_direction is_distance is_effectively_zero is_head_on is_speed is_width join larger last layout le line_on lines_on lt manoeuvres.manoeuvre manoeuvres.side_of manoeuvres.turned mul nanos_in neg negative not_above octant of_bits of_int offered offset or_first ordered own_comes_up own_of own_overtakes party party_checks party_of passage permitted placed plot_answer plot_checks plot_verdict plots.target_of policy_answer policy_on port_by17 port_by19 quarters range_rate readable refused_line relative_motion relative_of relative_speed relative_velocity rem removed report resolved rest risk_at round row_from rows_of rule18 ruled ruled_answer ruled_checks ruling_answer ruling_for ruling_of scaled_by seed_by seeded_choice seeded_side shared_sides sheet_verdict side_choice side_of sides_of sin sine_divisors sine_step sine_units situation situation_checks size solution solved speed_of spelled sqrt square starboard_by19 sub table tally target_comes_up target_of target_overtakes thousandths_of three_decimals time_of time_to_go to_bits to_degrees to_radians to_unsigned to_usize trial trial_clears trials trials_from turned_minus turned_units unit units_of up_to value_checks values.scaled velocity verdict vessel_of visibility_of whole_fold wind_from with_heading with_rate_of_turn with_wind_from words
 holds = refl

@@ -1,2 +1,3 @@
 -- What the code of the traffic owes.
+pub mod Held
 pub mod Loops

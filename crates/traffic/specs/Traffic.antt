@@ -1,25 +1,27 @@
 -- The traffic as a list, and its checks (01, 'The answers by number': 'the order count of contacts, own, contact …; a list goes entry by entry, contact then target').
-use Rattle.std.specs.Prelude.{List, [], ◌∷◌, ◌++◌, map, ℕ, take, leb}
+use mathlib.Core.List.{Memᴰ}
+use Rattle.std.specs.Prelude.{List, [], ◌∷◌, ◌++◌, map, ℕ, leb}
 use Rattle.elementary.specs.declared.error.Refusal.TheVariants as Why
-use Rattle.arguments.specs.Check.{zero, Check, check, contact_checks}
+use Rattle.arguments.specs.Check.{Check, check, contact_checks}
 use Rattle.situation.specs.Arguments.{party_checks}
+use Rattle.motion.specs.Held.{HeldVessel, HeldContact}
 use Rattle.passages.specs.declared.Target.{Target}
-use Rattle.passages.specs.declared.Moving.{Moving}
 use Rattle.room.specs.Room.{max_contacts}
 use Rattle.traffic.specs.declared.Entry.{Entry}
-use Rattle.traffic.specs.declared.Traffic.{Traffic}
-
-unfoldable pub contacts : Traffic → List Entry
-contacts t = take t.count t.list
 
 unfoldable pub target_of : Entry → Target
 target_of e = record { contact = e.contact; vessel = e.target.motion }
 
-unfoldable pub targets : Traffic → List Target
-targets t = map target_of (contacts t)
+unfoldable pub targets : List Entry → List Target
+targets es = map target_of es
 
-abbrev pub nowhere : Moving
-nowhere = record { range = record { 0 = zero }; offset = record { north = zero; east = zero }; velocity = record { north = zero; east = zero } }
+-- ---- entries whose figures are f64s, as all are that a caller can hand over
+pub record HeldEntry (e : Entry) : Type 0 where
+  pub contact : HeldContact e.contact
+  pub vessel : HeldVessel e.target.motion
+
+abbrev pub HeldEntries : List Entry → Type 0
+HeldEntries es = (e : Entry) → Memᴰ e es → HeldEntry e
 
 -- ---- the checks
 abbrev pub count_checks : ℕ → List Check

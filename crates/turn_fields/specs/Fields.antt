@@ -4,7 +4,7 @@ use Rattle.text.specs.Text.{bytes}
 use Rattle.text.specs.Decimal.{decimal_of}
 use Rattle.number_fields.specs.Fields.{quantity_field}
 use Rattle.motion.specs.declared.units.Distance.{Distance}
-use Rattle.manoeuvre.specs.declared.Side.{Side}
+use Rattle.motion.specs.declared.side.Side.{Side}
 use Rattle.std.specs.declared.option.Option.{Option}
 
 -- 'side (S or P, the list that held the trial, also at 0)'

@@ -6,7 +6,7 @@ ghost use Rattle.text.specs.Text.{shown, appended};
 ghost use Rattle.text.specs.Line.{spaced, line};
 ghost use Rattle.turn_fields.specs.Fields as Spec;
 
-use manoeuvre::Side;
+use motion::side::Side;
 use motion::units::Distance;
 use text::Text;
 

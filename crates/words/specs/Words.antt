@@ -1,5 +1,5 @@
--- An answer as the C exports of motion give it, six words, and their arguments.
-use Rattle.std.specs.Prelude.{cond, ℕ, eqb, Float}
+-- An answer as the C exports give it, words, and their arguments.
+use Rattle.std.specs.Prelude.{cond, List, [], ◌∷◌, ℕ, zero, suc, ◌-◌, length, get_or, replicate, Float}
 use Rattle.std.specs.Float.{binary64}
 use Rattle.std.specs.Float.Ieee.{eq, to_bits}
 use Rattle.elementary.specs.Refusal.{number_of}
@@ -8,17 +8,19 @@ use Rattle.time.specs.declared.Duration.{Duration}
 use Rattle.motion.specs.declared.units.Distance.{Distance}
 use Rattle.motion.specs.declared.vessel.Vessel.{Vessel}
 use Rattle.motion.specs.declared.vessel.Contact.{Contact}
-use Rattle.words.specs.declared.Words.{Words}
 
-unfoldable pub word : Words → ℕ → ℕ
-word w part = cond (eqb part 0) w.number (cond (eqb part 1) w.first (cond (eqb part 2) w.second (cond (eqb part 3) w.third (cond (eqb part 4) w.fourth w.fifth))))
+-- the word of a place, the last one for a place beyond it
+abbrev pub word : List ℕ → ℕ → ℕ
+word words part = get_or words part (get_or words (length words - 1) 0)
 
 -- one pattern stands for every NaN
 unfoldable pub pattern : Float → ℕ
 pattern x = cond (eq x x) (to_bits binary64 x) 0x7ff8_0000_0000_0000
 
-unfoldable pub refused : Refusal → Words
-refused why = record { number = number_of why; first = 0; second = 0; third = 0; fourth = 0; fifth = 0 }
+-- a refusal's number and no values, in so many words
+abbrev pub refused : ℕ → Refusal → List ℕ
+refused zero why = []
+refused (suc n) why = number_of why ∷ replicate n 0
 
 -- ---- the arguments
 abbrev pub vessel : Float → Float → Vessel

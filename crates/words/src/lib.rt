@@ -1,64 +1,53 @@
-// What the C exports of motion share: an answer as six words, and the arguments of vessels and contacts. Floats are bit patterns.
+// What the C exports share: an answer as words, the first of which is the refusal's number, and the arguments of vessels and contacts.
+// Floats are bit patterns.
 #![tactic(auto)]
 
-ghost use Rattle.std.specs.Prelude.{◌≡◌};
+ghost use Rattle.std.specs.Prelude.{◌≡◌, get_or};
 ghost use Rattle.words.specs.Words as Spec;
 
 use elementary::error::Refusal;
 use motion::units::{Direction, Distance, Speed};
 use motion::vessel::{Contact, Vessel};
+use std::num::f64_to_bits_with_nan;
 
-// The number of a refusal, and up to five values.
-#[derive(Clone, Copy)]
-pub struct Words {
-    pub number: u64,
-    pub first: u64,
-    pub second: u64,
-    pub third: u64,
-    pub fourth: u64,
-    pub fifth: u64,
+// The word of a place, `beyond` for a place beyond the last one.
+pub fn word_or(words: &[u64], part: u32, beyond: u64) -> u64
+    ensures { result ≡ get_or words.now part beyond }
+{
+    words.get(part as usize).copied().unwrap_or(beyond)
 }
 
 // The word of a place, the last one for a place beyond it.
-#[tactic(auto, unfolding(crate::specs::Words::word))]
-pub fn word(w: Words, part: u32) -> u64
-    ensures { result ≡ Spec.word w part }
+pub fn word(words: &[u64], part: u32) -> u64
+    ensures { result ≡ Spec.word words.now part }
 {
-    match part {
-        0 => w.number,
-        1 => w.first,
-        2 => w.second,
-        3 => w.third,
-        4 => w.fourth,
-        _ => w.fifth,
-    }
+    word_or(words, part, words.last().copied().unwrap_or(0))
 }
 
 // The bit pattern of a float, one and the same for every NaN.
+#[tactic(auto, using(crate::proofs::Patterns::one_pattern))]
 pub fn pattern(x: f64) -> u64
     ensures { result ≡ Spec.pattern x }
 {
-    if x == x {
-        return f64::to_bits(x);
-    }
-    9221120237041090560
+    f64_to_bits_with_nan(x)
 }
 
 // A refusal's number, and no values.
-pub fn refused(why: Refusal) -> Words
-    ensures { result ≡ Spec.refused why }
+pub fn refused<const N: usize>(why: Refusal) -> [u64; N]
+    ensures { result ≡ Spec.refused N why }
 {
-    Words {
-        number: why.number() as u64,
-        first: 0,
-        second: 0,
-        third: 0,
-        fourth: 0,
-        fifth: 0,
+    let mut words = [0; N];
+    if let Some(number) = words.first_mut() {
+        *number = why.number() as u64;
     }
+    words
 }
 
 // ---- the arguments
+// The exports make own craft, the contact and the target one by one: what they call takes them so, and a struct of the three would be
+// taken apart again.
+
+// A vessel with a course in degrees and a speed in knots.
 pub fn vessel(course: f64, speed: f64) -> Vessel
     ensures { result ≡ Spec.vessel course speed }
 {

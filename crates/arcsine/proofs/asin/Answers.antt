@@ -16,7 +16,7 @@ units-requires c = asks_units c.args.x (holds c.well_formed.0.1) c.if-x.false c.
 
 pub returns-then-x-3 : goal.returns-then-x-3
 unfolding of_bits
-returns-then-x-3 c = answer_inside c.args.x _ c.units.result _ c.if-x.false c.if-x-3.true c.units.ensures c.arcsine.ensures.0 (c.multiple.ensures 51 (le_of_lt c.arcsine.ensures.1) refl)
+returns-then-x-3 c = answer_inside c.args.x _ c.units.result _ c.if-x.false c.if-x-3.true c.units.ensures c.arcsine.ensures.0 (c.multiple.ensures.product 51 (le_of_lt c.arcsine.ensures.1) refl)
 
 pub returns : goal.returns
 returns c = zero_by_zero ∙ answer_above c.args.x c.if-x-3.false

@@ -1,17 +1,11 @@
-use Rattle.std.specs.Prelude.{take}
 use mathlib.Core.Path.{sym, ap, ◌∙◌}
-use Rattle.room.proofs.Counts.{take-room}
-use Rattle.clearing.specs.Clearing.{passage_at, movings, cleared, clears_at}
-use Rattle.clearing.proofs.Loop.{one_blocks, whole, no}
+use Rattle.clearing.specs.Clearing.{passage_at, cleared, clears_at}
+use Rattle.clearing.proofs.Loop.{is_none_lem, one_blocks, whole, no}
 use Rattle.clearing.proofs.suspect_blocks.Goals as goal
 
-pub loop-m-init : goal.loop-m-init
-unfolding movings
-loop-m-init c = take-room _ _ _ _ c.held.ensures c.well_formed.1.0.1.1.1.0.1.0.1
-
-pub returns-then-is_blocked : goal.returns-then-is_blocked
+pub returns-then-is_none : goal.returns-then-is_none
 unfolding clears_at
-returns-then-is_blocked c = λ e. ap (λ l. clears_at c.args.own c.args.floor l) (sym c.loop-m.invariant) ∙ sym (whole (passage_at c.args.own c.args.floor) (take c.held.result c.args.scene.list)) ∙ ap cleared (one_blocks (passage_at c.args.own c.args.floor) (take c.held.result c.args.scene.list) c.loop-m.m-index _ _ c.loop-m-test.true c.passage_of.ensures (sym c.is_blocked.ensures ∙ c.if-is_blocked.true))
+returns-then-is_none c = λ e. sym (whole (passage_at c.args.own c.args.floor) c.args.scene.now) ∙ ap cleared (one_blocks (passage_at c.args.own c.args.floor) c.args.scene.now c.loop-m.m-index _ _ c.loop-m-test.true c.passage_of.ensures (is_none_lem _ _ c.is_none.ensures c.if-is_none.true))
 
 pub returns : goal.returns
 returns c = no

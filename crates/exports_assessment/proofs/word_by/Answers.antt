@@ -3,11 +3,8 @@ use Rattle.std.specs.Result.{result_and}
 use mathlib.Core.Path.{sym, ap, ◌∙◌}
 use Rattle.arguments.specs.Check.{encounter_checks}
 use Rattle.arguments.proofs.Checks.{after}
-use Rattle.exports_assessment.specs.Words.{answer_word, verdict_word, word_by}
+use Rattle.exports_assessment.specs.Words.{verdict_word, word_by}
 use Rattle.exports_assessment.proofs.word_by.Goals as goal
-
-pub returns-in-Ok : goal.returns-in-Ok
-returns-in-Ok c = c.answer_word.ensures ∙ ap (λ a. answer_word a c.args.part) c.assess.ensures ∙ ap (λ p. word_by c.args.own c.args.contact c.args.target p c.args.part) (sym c.in-Ok.is)
 
 pub returns-in-Err : goal.returns-in-Err
 returns-in-Err c = c.verdict_word.ensures ∙ ap (λ v. verdict_word v c.args.part) (c.and.ensures ∙ ap (λ v. result_and v (Err c.in-Err.why)) c.check_encounter.ensures ∙ after (encounter_checks c.args.own c.args.contact c.args.target) (Err c.in-Err.why)) ∙ ap (λ p. word_by c.args.own c.args.contact c.args.target p c.args.part) (sym c.in-Err.is)

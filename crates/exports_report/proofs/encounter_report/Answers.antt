@@ -9,14 +9,6 @@ returns-then-n-out c =
     let held = no_room _ _ _ (c.size-n.ensures ∙ ap length c.report-t.ensures) c.if-n-out.true in
     record { counted = held.0; filled = held.1 }
 
-pub slice_bounds-bytes-end : goal.slice_bounds-bytes-end
-slice_bounds-bytes-end c =
-    omega (arith, c.size-n.ensures, length-take c.report-t.result.len c.report-t.result.bytes)
-
-pub slice_bounds-copy-end : goal.slice_bounds-copy-end
-slice_bounds-copy-end c =
-    omega (arith, c.size-n.ensures, length-take c.report-t.result.len c.report-t.result.bytes, length-take c.size-n.result c.report-t.result.bytes)
-
 pub copy-requires : goal.copy-requires
 copy-requires c =
     omega (arith, c.if-n-out.false, length-take c.size-n.result c.report-t.result.bytes)

@@ -7,7 +7,7 @@ use Rattle.inverse.proofs.atan2.Goals as goal
 
 pub returns-then-is_finite-2 : goal.returns-then-is_finite-2
 unfolding of_bits
-returns-then-is_finite-2 c = answer_finite c.args.y c.args.x _ c.of.result.value c.of-then-is_finite-2.result.value c.is_finite.result c.is_finite-then-is_finite.result _ c.is_finite.ensures c.is_finite-then-is_finite.ensures c.if-is_finite.true c.if-is_finite-2.true c.of.ensures c.of-then-is_finite-2.ensures c.angle-t.ensures.0 (c.multiple.ensures 48 (le_of_lt c.angle-t.ensures.1) refl)
+returns-then-is_finite-2 c = answer_finite c.args.y c.args.x _ c.of.result.value c.of-then-is_finite-2.result.value c.is_finite.result c.is_finite-then-is_finite.result _ c.is_finite.ensures c.is_finite-then-is_finite.ensures c.if-is_finite.true c.if-is_finite-2.true c.of.ensures c.of-then-is_finite-2.ensures c.angle-t.ensures.0 (c.multiple.ensures.product 48 (le_of_lt c.angle-t.ensures.1) refl)
 
 pub returns-then-is_finite : goal.returns-then-is_finite
 returns-then-is_finite c = zero_by_zero ∙ answer_no_x c.args.y c.args.x c.is_finite-then-is_finite.result c.is_finite-then-is_finite.ensures c.if-is_finite-2.false

@@ -10,8 +10,8 @@ use Rattle.math.proofs.multiple.Goals as goal
 exact : (n i : ℕ) (unit : Float) → n ≤ 2 ^ 53 → unit ≡ fin false 1 (negsuc i) → mul binary64 (of_int binary64 (pos n)) unit ≡ round binary64 false n (2 ^ suc i)
 exact n i unit h e = ap (mul binary64 (of_int binary64 (pos n))) e ∙ over_power (of_int binary64 (pos n)) n i (whole-value n h)
 
-pub returns-then-minus : goal.returns-then-minus
-returns-then-minus c i h e = ap neg (exact c.args.n i c.args.unit h e) ∙ neg-round false c.args.n (2 ^ suc i) ∙ ap (λ s. round binary64 s c.args.n (2 ^ suc i)) (sym c.if-minus.true)
+pub returns-then-minus-clause-product : goal.returns-then-minus-clause-product
+returns-then-minus-clause-product c i h e = ap neg (exact c.args.n i c.args.unit h e) ∙ neg-round false c.args.n (2 ^ suc i) ∙ ap (λ s. round binary64 s c.args.n (2 ^ suc i)) (sym c.if-minus.true)
 
-pub returns-else-minus : goal.returns-else-minus
-returns-else-minus c i h e = exact c.args.n i c.args.unit h e ∙ ap (λ s. round binary64 s c.args.n (2 ^ suc i)) (sym c.if-minus.false)
+pub returns-else-minus-clause-product : goal.returns-else-minus-clause-product
+returns-else-minus-clause-product c i h e = exact c.args.n i c.args.unit h e ∙ ap (λ s. round binary64 s c.args.n (2 ^ suc i)) (sym c.if-minus.false)

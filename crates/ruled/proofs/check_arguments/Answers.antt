@@ -1,30 +1,31 @@
+use lib.ListN.{length}
 use Rattle.arguments.specs.Check.{distance_checks}
 use Rattle.situation.specs.Arguments.{party_checks, perhaps_checks}
-use Rattle.traffic.specs.Traffic.{count_checks, contacts, contacts_checks}
+use Rattle.traffic.specs.Traffic.{count_checks, contacts_checks}
 use Rattle.rulings.specs.Ruled.{ruled_checks}
 use Rattle.arguments.proofs.Checks.{refused_by, accepted}
 use Rattle.ruled.proofs.check_arguments.Goals as goal
 
-pub returns-in_err-check_count : goal.returns-in_err-check_count
+pub returns-in_err-check_count-clause-checked : goal.returns-in_err-check_count-clause-checked
 unfolding ruled_checks
-returns-in_err-check_count c = refused_by (count_checks c.args.t.count) _ _ _ _ c.from_residual.ensures.1 c.in_err-check_count.ensures
+returns-in_err-check_count-clause-checked c = refused_by (count_checks (length c.args.t.now)) _ _ _ _ c.from_residual.ensures.1 c.in_err-check_count.ensures
 
-pub returns-in_err-check_party : goal.returns-in_err-check_party
+pub returns-in_err-check_party-clause-checked : goal.returns-in_err-check_party-clause-checked
 unfolding ruled_checks
-returns-in_err-check_party c = accepted (count_checks c.args.t.count) _ _ _ c.in_ok-check_count.ensures (refused_by (party_checks c.args.own) _ _ _ _ c.from_residual-in_err-check_party.ensures.1 c.in_err-check_party.ensures)
+returns-in_err-check_party-clause-checked c = accepted (count_checks (length c.args.t.now)) _ _ _ c.in_ok-check_count.ensures (refused_by (party_checks c.args.own) _ _ _ _ c.from_residual-in_err-check_party.ensures.1 c.in_err-check_party.ensures)
 
-pub returns-in_err-check_contacts : goal.returns-in_err-check_contacts
+pub returns-in_err-check_contacts-clause-checked : goal.returns-in_err-check_contacts-clause-checked
 unfolding ruled_checks
-returns-in_err-check_contacts c = accepted (count_checks c.args.t.count) _ _ _ c.in_ok-check_count.ensures (accepted (party_checks c.args.own) _ _ _ c.in_ok-check_party.ensures (refused_by (contacts_checks (contacts c.args.t)) _ _ _ _ c.from_residual-in_err-check_contacts.ensures.1 c.in_err-check_contacts.ensures))
+returns-in_err-check_contacts-clause-checked c = accepted (count_checks (length c.args.t.now)) _ _ _ c.in_ok-check_count.ensures (accepted (party_checks c.args.own) _ _ _ c.in_ok-check_party.ensures (refused_by (contacts_checks c.args.t.now) _ _ _ _ c.from_residual-in_err-check_contacts.ensures.1 c.in_err-check_contacts.ensures.checked))
 
-pub returns-in_err-check_perhaps : goal.returns-in_err-check_perhaps
+pub returns-in_err-check_perhaps-clause-checked : goal.returns-in_err-check_perhaps-clause-checked
 unfolding ruled_checks
-returns-in_err-check_perhaps c = accepted (count_checks c.args.t.count) _ _ _ c.in_ok-check_count.ensures (accepted (party_checks c.args.own) _ _ _ c.in_ok-check_party.ensures (accepted (contacts_checks (contacts c.args.t)) _ _ _ c.in_ok-check_contacts.ensures (refused_by (perhaps_checks c.args.wind) _ _ _ _ c.from_residual-in_err-check_perhaps.ensures.1 c.in_err-check_perhaps.ensures)))
+returns-in_err-check_perhaps-clause-checked c = accepted (count_checks (length c.args.t.now)) _ _ _ c.in_ok-check_count.ensures (accepted (party_checks c.args.own) _ _ _ c.in_ok-check_party.ensures (accepted (contacts_checks c.args.t.now) _ _ _ c.in_ok-check_contacts.ensures.checked (refused_by (perhaps_checks c.args.wind) _ _ _ _ c.from_residual-in_err-check_perhaps.ensures.1 c.in_err-check_perhaps.ensures)))
 
-pub returns-in_err-check_distance : goal.returns-in_err-check_distance
+pub returns-in_err-check_distance-clause-checked : goal.returns-in_err-check_distance-clause-checked
 unfolding ruled_checks
-returns-in_err-check_distance c = accepted (count_checks c.args.t.count) _ _ _ c.in_ok-check_count.ensures (accepted (party_checks c.args.own) _ _ _ c.in_ok-check_party.ensures (accepted (contacts_checks (contacts c.args.t)) _ _ _ c.in_ok-check_contacts.ensures (accepted (perhaps_checks c.args.wind) _ _ _ c.in_ok-check_perhaps.ensures (refused_by (distance_checks c.args.desired) _ _ _ _ c.from_residual-in_err-check_distance.ensures.1 c.in_err-check_distance.ensures))))
+returns-in_err-check_distance-clause-checked c = accepted (count_checks (length c.args.t.now)) _ _ _ c.in_ok-check_count.ensures (accepted (party_checks c.args.own) _ _ _ c.in_ok-check_party.ensures (accepted (contacts_checks c.args.t.now) _ _ _ c.in_ok-check_contacts.ensures.checked (accepted (perhaps_checks c.args.wind) _ _ _ c.in_ok-check_perhaps.ensures (refused_by (distance_checks c.args.desired) _ _ _ _ c.from_residual-in_err-check_distance.ensures.1 c.in_err-check_distance.ensures))))
 
-pub returns : goal.returns
+pub returns-clause-checked : goal.returns-clause-checked
 unfolding ruled_checks
-returns c = accepted (count_checks c.args.t.count) _ _ _ c.in_ok-check_count.ensures (accepted (party_checks c.args.own) _ _ _ c.in_ok-check_party.ensures (accepted (contacts_checks (contacts c.args.t)) _ _ _ c.in_ok-check_contacts.ensures (accepted (perhaps_checks c.args.wind) _ _ _ c.in_ok-check_perhaps.ensures (accepted (distance_checks c.args.desired) _ _ _ c.in_ok-check_distance.ensures c.check_constraints.ensures))))
+returns-clause-checked c = accepted (count_checks (length c.args.t.now)) _ _ _ c.in_ok-check_count.ensures (accepted (party_checks c.args.own) _ _ _ c.in_ok-check_party.ensures (accepted (contacts_checks c.args.t.now) _ _ _ c.in_ok-check_contacts.ensures.checked (accepted (perhaps_checks c.args.wind) _ _ _ c.in_ok-check_perhaps.ensures (accepted (distance_checks c.args.desired) _ _ _ c.in_ok-check_distance.ensures c.check_constraints.ensures))))

@@ -1,31 +1,24 @@
-use mathlib.Core.Path.{refl}
-use Rattle.traffic.specs.Traffic.{contacts}
+use mathlib.Core.Path.{refl, sym}
 use Rattle.ruled_laws.specs.Held.{HeldArguments}
+use Rattle.ruled_laws.proofs.Accepted as Accepted
 use Rattle.arguments.proofs.Checks.{handed_on}
-use Rattle.ruled.proofs.Held.{is_held, entries-held}
+use Rattle.ruled.proofs.Held.{is_held}
 use Rattle.ruled.proofs.Steps.{accepted, refused}
 use Rattle.ruled.proofs.ruled_search.Goals as goal
 
-held : (c : goal.After-search) → HeldArguments c.args.own (contacts c.args.t) c.args.constraints
-unfolding contacts
+held : (c : goal.After-search) → HeldArguments c.args.own c.args.t.now c.args.constraints
 held c = record {
   vessel = record { course = is_held c.well_formed.0.1.1.0.1.1.0.1.1.0.1; speed = is_held c.well_formed.0.1.1.0.1.1.1.0.1.1.0.1 };
-  each = λ e m. entries-held c.args.t.list c.well_formed.1.0.1.1.1.0.0 c.well_formed.1.0.1.1.1.0.1.1 c.args.t.count e m;
+  each = c.in_ok-check_arguments.ensures.held;
   least = is_held c.well_formed.1.1.1.1.1.0.1.1.1.0.1.1.0.1;
   most = is_held c.well_formed.1.1.1.1.1.0.1.1.1.1.0.1.1.0.1;
 }
+
+pub search-requires : goal.search-requires
+search-requires c = Accepted.few _ _ _ _ _ _ (sym c.in_ok-check_arguments.ensures.checked)
 
 pub returns : goal.returns
-returns c = accepted _ _ _ _ _ _ _ (held c) _ c.in_ok-check_arguments.ensures refl _ c.search.ensures
-
-held_2 : (c : goal.After-from_residual) → HeldArguments c.args.own (contacts c.args.t) c.args.constraints
-unfolding contacts
-held_2 c = record {
-  vessel = record { course = is_held c.well_formed.0.1.1.0.1.1.0.1.1.0.1; speed = is_held c.well_formed.0.1.1.0.1.1.1.0.1.1.0.1 };
-  each = λ e m. entries-held c.args.t.list c.well_formed.1.0.1.1.1.0.0 c.well_formed.1.0.1.1.1.0.1.1 c.args.t.count e m;
-  least = is_held c.well_formed.1.1.1.1.1.0.1.1.1.0.1.1.0.1;
-  most = is_held c.well_formed.1.1.1.1.1.0.1.1.1.1.0.1.1.0.1;
-}
+returns c = accepted _ _ _ _ _ _ _ (held c) _ c.in_ok-check_arguments.ensures.checked refl _ c.search.ensures
 
 pub returns-in_err-check_arguments : goal.returns-in_err-check_arguments
-returns-in_err-check_arguments c = rw (handed_on _ _ c.from_residual.ensures.1) (refused _ _ _ _ _ _ _ (held_2 c) _ c.in_err-check_arguments.ensures _ refl)
+returns-in_err-check_arguments c = rw (handed_on _ _ c.from_residual.ensures.1) (refused _ _ _ _ _ _ _ _ c.in_err-check_arguments.ensures.checked)

@@ -1,8 +1,7 @@
 use Rattle.std.specs.Prelude.{◌≡◌, drop}
 use Rattle.laws.specs.Fold.{fold}
-use Rattle.traffic.specs.Traffic.{contacts}
 use Rattle.rulings.specs.Ruled.{either, join_sides}
 use Rattle.rulings.proofs.shared_sides.Given as goal
 
 abbrev pub invariant-loop-e : goal.invariant-loop-e
-invariant-loop-e l = (l.e-items ≡ contacts l.fn.t) × (fold (join_sides l.own l.visibility l.wind) l.sides (drop l.e-index l.e-items) ≡ fold (join_sides l.own l.visibility l.wind) either l.e-items)
+invariant-loop-e l = fold (join_sides l.own l.visibility l.wind) l.sides (drop l.e-index l.t) ≡ fold (join_sides l.own l.visibility l.wind) either l.t

@@ -1,7 +1,7 @@
-use Rattle.std.specs.Prelude.{◌≡◌}
-use Rattle.sheet_record.specs.Record.{rows}
-use Rattle.sheet.proofs.Steps.{left}
+use Rattle.std.specs.Prelude.{◌≡◌, drop}
+use Rattle.arguments.specs.Check.{checked}
+use Rattle.sheet.specs.Sheet.{category_checks}
 use Rattle.sheet.proofs.check_categories.Given as goal
 
 abbrev pub invariant-loop-row : goal.invariant-loop-row
-invariant-loop-row l = (l.row-items ≡ rows l.fn.rows) × (left l.row-items l.row-index ≡ left l.row-items 0)
+invariant-loop-row l = checked (category_checks (drop l.row-index l.rows)) ≡ checked (category_checks l.rows)

@@ -28,4 +28,4 @@ returns-in_err-check_perhaps c = accepted (vessel_checks (own_of c.args.h).motio
 
 pub returns : goal.returns
 unfolding value_checks
-returns c = accepted (vessel_checks (own_of c.args.h).motion) _ _ _ (rw c.own_of-own.ensures at c.in_ok-check_vessel.ensures) (accepted (distance_checks (record { 0 = scaled c.args.h.desired })) _ _ _ (rw c.scaled-3.ensures at c.in_ok-check_distance.ensures) (accepted (alteration_checks (record { 0 = scaled c.args.h.least }) (record { 0 = scaled c.args.h.most })) _ _ _ (rw (c.scaled.ensures, c.scaled-2.ensures) at c.in_ok-check_alterations.ensures) (accepted (limit_checks c.args.h) _ _ _ c.in_ok-check_limits.ensures (accepted (perhaps_checks (wind_from c.args.h)) _ _ _ (rw c.wind_from-wind.ensures at c.in_ok-check_perhaps.ensures) c.check_contacts.ensures))))
+returns c = accepted (vessel_checks (own_of c.args.h).motion) _ _ _ (rw c.own_of-own.ensures at c.in_ok-check_vessel.ensures) (accepted (distance_checks (record { 0 = scaled c.args.h.desired })) _ _ _ (rw c.scaled-3.ensures at c.in_ok-check_distance.ensures) (accepted (alteration_checks (record { 0 = scaled c.args.h.least }) (record { 0 = scaled c.args.h.most })) _ _ _ (rw (c.scaled.ensures, c.scaled-2.ensures) at c.in_ok-check_alterations.ensures) (accepted (limit_checks c.args.h) _ _ _ c.in_ok-check_limits.ensures (accepted (perhaps_checks (wind_from c.args.h)) _ _ _ (rw c.wind_from-wind.ensures at c.in_ok-check_perhaps.ensures) c.check_contacts.ensures.checked))))

@@ -1,26 +1,14 @@
-use native.Mathlib.Omega.{arith}
 use mathlib.Core.Path.{refl}
-use Rattle.sheet_record.specs.Record.{rows}
 use Rattle.sheet_limits.specs.Limits.{id_at}
 use Rattle.sheet_limits.proofs.Ids.{inside, beyond}
 use Rattle.sheet_limits.proofs.id_at.Goals as goal
 
-pub offset_bounds-rows-place : goal.offset_bounds-rows-place
-offset_bounds-rows-place c = omega (arith, c.if-place-held.true, c.held.ensures)
+pub returns-in-Some : goal.returns-in-Some
+returns-in-Some c = rw c.in-Some.is (inside _ _ _ c.if-place-rows.true)
 
-pub bounds-rows-place : goal.bounds-rows-place
-bounds-rows-place c = omega (arith, c.if-place-held.true, c.held.ensures)
+pub returns-in_default : goal.returns-in_default
+returns-in_default c = rw c.in-Some.is (beyond _ _ c.if-place-rows.false)
 
-pub returns-then-place-held : goal.returns-then-place-held
-unfolding rows
-returns-then-place-held c =
-    rw c.in-Some.is (inside _ _ _ _ c.held.ensures c.well_formed.0.1.1.1.0.1.0.1 _ c.if-place-held.true)
-
-pub returns-in-None : goal.returns-in-None
+pub returns-in_default-2 : goal.returns-in_default-2
 unfolding id_at
-returns-in-None c = rw c.in-None.is refl
-
-pub returns-else-place-held : goal.returns-else-place-held
-unfolding rows
-returns-else-place-held c =
-    rw c.in-Some.is (beyond _ _ _ _ c.held.ensures c.well_formed.0.1.1.1.0.1.0.1 c.if-place-held.false)
+returns-in_default-2 c = rw c.in_default.is refl

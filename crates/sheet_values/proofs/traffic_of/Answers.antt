@@ -1,27 +1,20 @@
-use Rattle.std.proofs.Common.{refl, arith}
-use Rattle.traffic.specs.Traffic.{contacts}
-use Rattle.sheet_record.specs.Record.{rows}
-use Rattle.sheet_values.proofs.Filling.{none, more, filled}
+use mathlib.Core.Path.{ap, ◌∙◌}
+use mathlib.Core.List.{map}
+use native.Mathlib.Omega.{arith}
+use lib.ListN.{length}
+use Rattle.std.proofs.Common.{lit<}
+use Rattle.room.proofs.Made.{made-length, one_more, all_made}
+use Rattle.sheet_values.specs.Values.{entry_of}
 use Rattle.sheet_values.proofs.traffic_of.Goals as goal
 
-pub loop-i-init : goal.loop-i-init
-loop-i-init c = (omega arith, none _ c.well_formed.0.1.1.1.0.1.0.1 _ refl)
+pub loop-row-init : goal.loop-row-init
+loop-row-init c = c.new-t.ensures
 
-pub offset_bounds-rows-i : goal.offset_bounds-rows-i
-offset_bounds-rows-i c = omega (arith, c.loop-i-test.true, c.held-n.ensures)
+pub push-requires : goal.push-requires
+push-requires c = (lit< tt, omega (arith, ap length c.loop-row.invariant, made-length entry_of c.first-held.result.now c.loop-row.row-index c.loop-row.auto.row-index-end, c.loop-row-test.true, c.first-held.ensures.fits))
 
-pub bounds-rows-i : goal.bounds-rows-i
-bounds-rows-i c = omega (arith, c.loop-i-test.true, c.held-n.ensures)
-
-pub offset_bounds-t-i : goal.offset_bounds-t-i
-offset_bounds-t-i c = omega (arith, c.loop-i-test.true, c.held-n.ensures)
-
-pub bounds-t-i : goal.bounds-t-i
-bounds-t-i c = omega (arith, c.loop-i-test.true, c.held-n.ensures, c.loop-i.invariant.1.full)
-
-pub loop-i-preserved : goal.loop-i-preserved
-loop-i-preserved c = (omega arith, more _ c.well_formed.0.1.1.1.0.1.0.1 _ _ _ _ (omega (arith, c.loop-i-test.true, c.held-n.ensures)) c.entry_of-e.ensures c.loop-i.invariant.1)
+pub loop-row-preserved : goal.loop-row-preserved
+loop-row-preserved c = c.push.ensures.items ∙ one_more entry_of c.first-held.result.now c.loop-row.t.items c.loop-row.row-index _ _ c.loop-row-test.true c.entry_of.ensures c.loop-row.invariant
 
 pub returns : goal.returns
-unfolding contacts rows
-returns c = record { counted = refl; listed = filled _ c.well_formed.0.1.1.1.0.1.0.1 _ _ _ _ (omega (arith, c.loop-i-test.false, c.loop-i.invariant.0)) c.held-n.ensures c.loop-i.invariant.1 }
+returns c = all_made entry_of c.first-held.result.now _ c.loop-row.row-index (omega (arith, c.loop-row-test.false, c.loop-row.auto.row-index-end)) c.loop-row.invariant ∙ ap (map entry_of) c.first-held.ensures.value

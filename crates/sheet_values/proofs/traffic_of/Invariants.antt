@@ -1,6 +1,7 @@
-use Rattle.std.proofs.Common.{◌≤◌}
-use Rattle.sheet_values.proofs.Filling.{Filled}
+use Rattle.std.specs.Prelude.{◌≡◌}
+use Rattle.room.proofs.Made.{made}
+use Rattle.sheet_values.specs.Values.{entry_of}
 use Rattle.sheet_values.proofs.traffic_of.Given as goal
 
-abbrev pub invariant-loop-i : goal.invariant-loop-i
-invariant-loop-i l = (l.i ≤ l.n) × Filled l.rows.list l.t.list l.i
+abbrev pub invariant-loop-row : goal.invariant-loop-row
+invariant-loop-row l = l.t.items ≡ made entry_of l.held l.row-index

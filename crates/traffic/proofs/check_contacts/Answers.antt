@@ -1,22 +1,27 @@
-use Rattle.std.specs.Prelude.{refl, take}
-use mathlib.Core.Path.{ap, ◌∙◌}
+use mathlib.Core.List.Memᴰ
+use Rattle.std.specs.Prelude.{OnOk}
+use mathlib.Core.Path.{refl, sym, subst, ◌∙◌}
 use native.Mathlib.Omega.{arith}
-use Rattle.room.proofs.Counts.{take-room}
-use Rattle.arguments.specs.Check.{checked}
 use Rattle.arguments.proofs.Checks.{handed_on}
-use Rattle.traffic.specs.Traffic.{contacts, contacts_checks}
-use Rattle.traffic.proofs.Loops.{entry_passed, entry_refused, all_passed}
+use Rattle.arguments.proofs.Lists.{passed, stopped, ended}
+use Rattle.traffic.specs.Traffic.{HeldEntries, entry_checks, contacts_checks}
+use Rattle.traffic.proofs.Held.{first_more, all_held}
 use Rattle.traffic.proofs.check_contacts.Goals as goal
 
 pub loop-e-init : goal.loop-e-init
-unfolding contacts
-loop-e-init c = (take-room _ _ _ _ c.held.ensures c.well_formed.0.1.1.1.0.1.0.1, refl)
+loop-e-init c = (λ e m. absurd (Memᴰ.not-nil m), refl)
 
 pub loop-e-preserved : goal.loop-e-preserved
-loop-e-preserved c = (c.loop-e.invariant.0, entry_passed (take c.held.result c.args.t.list) c.loop-e.e-index _ c.loop-e-test.true c.in_ok-check_entry.ensures ∙ c.loop-e.invariant.1)
+unfolding contacts_checks
+loop-e-preserved c = (first_more c.args.t.now c.loop-e.e-index _ c.loop-e-test.true c.loop-e.invariant.0 c.check_entry.ensures.held, passed entry_checks contacts_checks (λ e es. refl) c.args.t.now c.loop-e.e-index _ c.loop-e-test.true (c.in_ok-check_entry.ensures.checked) ∙ c.loop-e.invariant.1)
 
 pub returns-in_err-check_entry : goal.returns-in_err-check_entry
-returns-in_err-check_entry c = handed_on _ _ c.from_residual.ensures.1 ∙ entry_refused (take c.held.result c.args.t.list) c.loop-e.e-index _ _ c.loop-e-test.true c.in_err-check_entry.ensures ∙ c.loop-e.invariant.1 ∙ ap (λ l. checked (contacts_checks l)) c.loop-e.invariant.0
+unfolding contacts_checks
+returns-in_err-check_entry c = let e = handed_on _ _ c.from_residual.ensures.1 in record {
+  held = subst (λ r. OnOk r (HeldEntries c.args.t.now)) (sym e) tt;
+  checked = e ∙ stopped entry_checks contacts_checks (λ e es. refl) c.args.t.now c.loop-e.e-index _ _ c.loop-e-test.true c.in_err-check_entry.ensures.checked ∙ c.loop-e.invariant.1;
+}
 
 pub returns : goal.returns
-returns c = all_passed (take c.held.result c.args.t.list) c.loop-e.e-index (omega (arith, c.loop-e-test.false, c.loop-e.auto.e-index-end)) ∙ c.loop-e.invariant.1 ∙ ap (λ l. checked (contacts_checks l)) c.loop-e.invariant.0
+unfolding contacts_checks
+returns c = record { held = all_held c.args.t.now c.loop-e.e-index (omega (arith, c.loop-e-test.false, c.loop-e.auto.e-index-end)) c.loop-e.invariant.0; checked = ended entry_checks contacts_checks (λ e es. refl) c.args.t.now c.loop-e.e-index (omega (arith, c.loop-e-test.false, c.loop-e.auto.e-index-end)) refl ∙ c.loop-e.invariant.1 }

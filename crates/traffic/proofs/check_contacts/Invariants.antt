@@ -1,7 +1,7 @@
-use Rattle.std.specs.Prelude.{◌≡◌}
-use Rattle.traffic.specs.Traffic.{contacts}
-use Rattle.traffic.proofs.Loops.{left}
+use Rattle.std.specs.Prelude.{◌≡◌, take, drop}
+use Rattle.arguments.specs.Check.{checked}
+use Rattle.traffic.specs.Traffic.{HeldEntries, contacts_checks}
 use Rattle.traffic.proofs.check_contacts.Given as goal
 
 abbrev pub invariant-loop-e : goal.invariant-loop-e
-invariant-loop-e l = (l.e-items ≡ contacts l.fn.t) × (left l.e-items l.e-index ≡ left l.e-items 0)
+invariant-loop-e l = HeldEntries (take l.e-index l.t) × (checked (contacts_checks (drop l.e-index l.t)) ≡ checked (contacts_checks l.t))

@@ -1,28 +1,23 @@
-use Rattle.clearing.specs.Clearing.{movings, moving}
-use Rattle.traffic.specs.Traffic.{contacts, targets}
-use Rattle.traffic.proofs.Loops.{more, filled}
-use mathlib.Core.Path.{refl, ◌∙◌, ap}
+use mathlib.Core.Path.{sym, ap, ◌∙◌}
+use mathlib.Core.List.{map, map-map}
 use native.Mathlib.Omega.{arith}
+use Rattle.std.proofs.Common.{lit<}
+use lib.ListN.{length}
+use Rattle.room.proofs.Made.{made-length, one_more, all_made}
+use Rattle.clearing.specs.Clearing.{moving}
+use Rattle.traffic.specs.Traffic.{target_of, targets}
+use Rattle.traffic.proofs.Loops.{moving_of}
 use Rattle.traffic.proofs.scene_of.Goals as goal
 
-pub loop-i-init : goal.loop-i-init
-loop-i-init c = (omega arith, record { full = refl; same = refl })
+pub loop-e-init : goal.loop-e-init
+loop-e-init c = c.new-scene.ensures
 
-pub offset_bounds-t-i : goal.offset_bounds-t-i
-offset_bounds-t-i c = omega (arith, c.loop-i-test.true, c.held-count.ensures)
+pub push-requires : goal.push-requires
+push-requires c = (lit< tt, omega (arith, ap length c.loop-e.invariant, made-length moving_of c.first-held.result.now c.loop-e.e-index c.loop-e.auto.e-index-end, c.loop-e-test.true, c.first-held.ensures.fits))
 
-pub bounds-t-i : goal.bounds-t-i
-bounds-t-i c = omega (arith, c.loop-i-test.true, c.held-count.ensures)
-
-pub offset_bounds-scene-i : goal.offset_bounds-scene-i
-offset_bounds-scene-i c = omega (arith, c.loop-i-test.true, c.held-count.ensures)
-
-pub bounds-scene-i : goal.bounds-scene-i
-bounds-scene-i c = omega (arith, c.loop-i-test.true, c.held-count.ensures, c.loop-i.invariant.1)
-
-pub loop-i-preserved : goal.loop-i-preserved
-loop-i-preserved c = (omega arith, more _ _ _ _ _ _ (omega (arith, c.loop-i-test.true, c.held-count.ensures)) c.well_formed.0.1.1.1.0.1.0.1 (c.moving_of-m.ensures ∙ ap moving c.target_of.ensures) c.loop-i.invariant.1)
+pub loop-e-preserved : goal.loop-e-preserved
+loop-e-preserved c = c.push.ensures.items ∙ one_more moving_of c.first-held.result.now c.loop-e.scene.items c.loop-e.e-index _ _ c.loop-e-test.true (c.moving_of.ensures ∙ ap moving c.target_of.ensures) c.loop-e.invariant
 
 pub returns : goal.returns
-unfolding movings targets contacts
-returns c = filled _ _ _ _ _ _ (omega (arith, c.loop-i-test.false, c.loop-i.invariant.0)) c.held-count.ensures c.well_formed.0.1.1.1.0.1.0.1 c.loop-i.invariant.1
+unfolding targets
+returns c = all_made moving_of c.first-held.result.now _ c.loop-e.e-index (omega (arith, c.loop-e-test.false, c.loop-e.auto.e-index-end)) c.loop-e.invariant ∙ ap (map moving_of) c.first-held.ensures.value ∙ sym (map-map moving target_of _)

@@ -1,7 +1,7 @@
-use Rattle.traffic.proofs.Loops.{Filled}
-use Prim.Native.Nat.{◌≤◌}
-use Rattle.room.specs.Room.{max_contacts}
+use Rattle.std.specs.Prelude.{◌≡◌}
+use Rattle.room.proofs.Made.{made}
+use Rattle.traffic.proofs.Loops.{moving_of}
 use Rattle.traffic.proofs.scene_of.Given as goal
 
-abbrev pub invariant-loop-i : goal.invariant-loop-i
-invariant-loop-i l = (l.i ≤ l.count) × Filled max_contacts l.t.list l.scene.list l.i
+abbrev pub invariant-loop-e : goal.invariant-loop-e
+invariant-loop-e l = l.scene.items ≡ made moving_of l.held l.e-index

@@ -1,2 +1,0 @@
--- What the code of the offers owes.
-pub mod Offers

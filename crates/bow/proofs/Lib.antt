@@ -1,2 +1,0 @@
--- What the code of the bow crossing owes.
-pub mod Crossings

@@ -1,2 +1,0 @@
--- A fact on lists.
-pub mod Lists

@@ -1,2 +1,0 @@
--- What the code of the encounters owes.
-pub mod Encounters

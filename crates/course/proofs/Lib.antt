@@ -1,2 +1,0 @@
--- What the code of `course_for_cpa` owes.
-pub mod Courses

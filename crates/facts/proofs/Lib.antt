@@ -1,2 +1,0 @@
--- What the code of the facts owes.
-pub mod Gathered

@@ -1,2 +1,0 @@
--- What the code of manoeuvres owes.
-mod Sides

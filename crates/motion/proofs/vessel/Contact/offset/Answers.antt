@@ -1,6 +1,0 @@
-use Rattle.motion.specs.Vessel.{offset}
-use Rattle.motion.proofs.vessel.Contact.offset.Goals as goal
-
-pub returns : goal.returns
-unfolding offset
-returns c = c.resolved.ensures

@@ -1,2 +1,0 @@
--- What the code of relative motion owes.
-pub mod Approaches

@@ -1,0 +1,2 @@
+-- What a replayed record says.
+pub mod Record

@@ -1,7 +1,0 @@
-use mathlib.Core.Path.{refl}
-use Rattle.ruling_words.specs.Words.{refused}
-use Rattle.ruling_words.proofs.refused.Goals as goal
-
-pub returns : goal.returns
-unfolding refused
-returns c = rw c.number.ensures refl

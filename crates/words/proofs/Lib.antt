@@ -1,0 +1,2 @@
+-- A fact that the function's proof cites.
+pub mod Patterns
