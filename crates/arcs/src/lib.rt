@@ -84,6 +84,7 @@ struct NotAbove {
 }
 
 // ---- the sine, the cosine and the scaled rest at a step
+// A step stays a plain number, and `a ≤ last_step` a clause: the search adds and halves, and each sum would be made a step anew.
 fn sine_at(a: u64) -> u64
     requires { a ≤ last_step }
     ensures { (result ≡ sine_step a) × (result ≤ 2 ^ 58) }

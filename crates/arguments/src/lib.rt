@@ -9,6 +9,7 @@ use motion::units::{Direction, Distance, Speed};
 use motion::vessel::{Contact, Vessel};
 
 // From 0 up to but not including 360.
+#[tactic(auto, unfolding(crate::specs::Check::is_direction))]
 pub fn is_direction(d: Direction) -> bool
     ensures { result ≡ Spec.is_direction d }
 {
@@ -16,6 +17,7 @@ pub fn is_direction(d: Direction) -> bool
 }
 
 // From 0 to 1,000 knots.
+#[tactic(auto, unfolding(crate::specs::Check::is_speed))]
 pub fn is_speed(s: Speed) -> bool
     ensures { result ≡ Spec.is_speed s }
 {
@@ -23,6 +25,7 @@ pub fn is_speed(s: Speed) -> bool
 }
 
 // From 0 to 10,000 nautical miles.
+#[tactic(auto, unfolding(crate::specs::Check::is_distance))]
 pub fn is_distance(d: Distance) -> bool
     ensures { result ≡ Spec.is_distance d }
 {
@@ -30,6 +33,7 @@ pub fn is_distance(d: Distance) -> bool
 }
 
 // Whether a check is good, and the refusal if it is not.
+#[tactic(auto, unfolding(crate::specs::Check::verdict))]
 pub fn ensure(good: bool, why: Refusal) -> Result<(), Refusal>
     ensures { result ≡ Spec.checked (Spec.check good why ∷ []) }
 {
@@ -59,7 +63,8 @@ pub fn check_distance(d: Distance) -> Result<(), Refusal>
     ensure(is_distance(d), Refusal::Distance)
 }
 
-// Own craft, the contact and the target.
+// Own craft, the contact and the target. They stay three arguments of each function on an encounter: the module keeps the Rust's signatures, so
+// that the two can be held side by side.
 pub fn check_encounter(own: Vessel, contact: Contact, target: Vessel) -> Result<(), Refusal>
     ensures { result ≡ Spec.checked (Spec.encounter_checks own contact target) }
 {

@@ -7,12 +7,11 @@ use motion::units::{Direction, Distance, RateOfTurn, Speed};
 use motion::vessel;
 use motion::vessel::{Contact, Vessel};
 use policy::CpaPolicy;
-use relative_motion::approach;
-use relative_motion::approach::Cpa;
+use relative_motion::approach::{Cpa, Relative};
 use risk::CollisionRisk;
 use time::Duration;
 
-#[derive(Clone, Copy)]
+#[derive(Clone, Copy, Default)]
 pub struct CollisionAssessment {
     range: Distance,
     bearing: Direction,
@@ -25,24 +24,19 @@ pub struct CollisionAssessment {
 }
 
 // With accepted arguments.
+#[tactic(auto, unfolding(crate::specs::Assess::assessment))]
 fn assessed(own: Vessel, contact: Contact, target: Vessel, policy: CpaPolicy) -> CollisionAssessment
     ensures { result ≡ Spec.assessment own contact target policy }
 {
-    let offset = contact.offset();
-    let relative = vessel::relative_velocity(own, target);
-    let ahead = bow::crossing(
-        contact.range.0,
-        offset,
-        relative,
-        vessel::unit(own.course.0),
-    );
-    let cpa = risk::nearest(approach::approach_from(contact.range, offset, relative));
+    let seen = Relative::of(own, contact, target);
+    let ahead = bow::crossing(seen, vessel::unit(own.course.0));
+    let cpa = risk::nearest(seen.approach());
     CollisionAssessment {
         range: contact.range,
         bearing: contact.bearing,
-        relative_course: vessel::direction_of(relative),
-        relative_speed: Speed(root::hypot(relative.north, relative.east)),
-        bearing_drift: risk::drift_of(contact.range.0, offset, relative),
+        relative_course: vessel::direction_of(seen.velocity),
+        relative_speed: Speed(root::hypot(seen.velocity.north, seen.velocity.east)),
+        bearing_drift: risk::drift_of(seen),
         cpa,
         bow_crossing: risk::ahead_of(ahead),
         risk: risk::risk_of(policy, cpa),

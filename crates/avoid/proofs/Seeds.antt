@@ -71,11 +71,13 @@ size_small a t h =
     none_less n = omega arith
 
     not_negative : T (finite a) → T (le (fin false 0 (pos 0)) (abs a))
-    not_negative f = subst T (sym (le-units (fin false 0 (pos 0)) (abs a) 0 (units_of a) (refl, refl) (abs-units a (sign a) (units_of a) (own_units a t f)))) (test_of_le 0 (units_of a) (none_less (units_of a)))
+    not_negative f = subst T (sym (le-units (fin false 0 (pos 0)) (abs a) 0 (units_of a) (refl, refl) (abs-units a (sign a) (units_of a) (own_units a t f))))
+        (test_of_le 0 (units_of a) (none_less (units_of a)))
 
 module _ (least most : Float) (L : Limits least most) where
   least-small : Small 9 0 least
-  least-small = small_of_tests least half_turn (180 * 2 ^ 1074) 9 L.least_fits (unfold of_bits in (refl, refl)) (lit≤ tt) (unfold of_bits in L.not_negative) (le_trans_float least most half_turn L.ordered L.at_most)
+  least-small = small_of_tests least half_turn (180 * 2 ^ 1074) 9 L.least_fits (unfold of_bits in (refl, refl)) (lit≤ tt) (unfold of_bits in L.not_negative)
+      (le_trans_float least most half_turn L.ordered L.at_most)
 
   raised-small : (a : Float) → T (fits binary64 a) → T (le (raised least (abs a)) most) → Small 9 0 (raised least (abs a))
   unfolding larger
@@ -91,7 +93,8 @@ module _ (least most : Float) (L : Limits least most) where
     unfolding seed_by
     same_seed a t = go (lt Check.zero (signed side a))
       where
-        at : (b : Bool) → le (raised least (abs a)) most ≡ b → cond b (chosen side (raised least (abs a)) (f (raised least (abs a)))) None ≡ cond b (chosen side (raised least (abs a)) (g (raised least (abs a)))) None
+        at : (b : Bool) → le (raised least (abs a)) most ≡ b → cond b (chosen side (raised least (abs a)) (f (raised least (abs a)))) None
+            ≡ cond b (chosen side (raised least (abs a)) (g (raised least (abs a)))) None
         at true e = ap (chosen side (raised least (abs a))) (same (raised least (abs a)) (raised-small a t (holds e)))
         at false e = refl
 
@@ -99,7 +102,8 @@ module _ (least most : Float) (L : Limits least most) where
         go true = at (le (raised least (abs a)) most) refl
         go false = refl
 
-    same_side_lem : (permitted : Bool) (own : Direction) (a : Option Direction) → seeded_side permitted f side most (seed_on own side least a) (trials least most) ≡ seeded_side permitted g side most (seed_on own side least a) (trials least most)
+    same_side_lem : (permitted : Bool) (own : Direction) (a : Option Direction)
+        → seeded_side permitted f side most (seed_on own side least a) (trials least most) ≡ seeded_side permitted g side most (seed_on own side least a) (trials least most)
     unfolding seeded_side
     same_side_lem permitted own a =
         ap (λ s. cond permitted (or_else s (first f side (trials least most))) None) (seeds a)
@@ -109,10 +113,12 @@ module _ (least most : Float) (L : Limits least most) where
         seeds None = refl
         seeds (Some course) = same_seed (half_fold (course.0 ⊖ own.0)) (half_fold-fits (course.0 ⊖ own.0) (sub-fits binary64 course.0 own.0))
 
-same_seeded : (own : Vessel) (f g : Side → Float → Option Passing) (courses : Avoidance) (c : ManoeuvreConstraints) → Limits c.least_alteration.0 c.most_alteration.0 → ((side : Side) (m : Float) → Small 9 0 m → f side m ≡ g side m) → seeded_choice own f courses c ≡ seeded_choice own g courses c
+same_seeded : (own : Vessel) (f g : Side → Float → Option Passing) (courses : Avoidance) (c : ManoeuvreConstraints)
+    → Limits c.least_alteration.0 c.most_alteration.0 → ((side : Side) (m : Float) → Small 9 0 m → f side m ≡ g side m) → seeded_choice own f courses c ≡ seeded_choice own g courses c
 unfolding seeded_choice
 same_seeded own f g courses c L same =
-    ap (λ s. smaller s (side f Port (permits_port c.sides) courses.port)) (same_side_lem least most L (f Starboard) (g Starboard) (same Starboard) Starboard (permits_starboard c.sides) own.course courses.starboard)
+    ap (λ s. smaller s (side f Port (permits_port c.sides) courses.port))
+    (same_side_lem least most L (f Starboard) (g Starboard) (same Starboard) Starboard (permits_starboard c.sides) own.course courses.starboard)
     ∙ ap (smaller (side g Starboard (permits_starboard c.sides) courses.starboard)) (same_side_lem least most L (f Port) (g Port) (same Port) Port (permits_port c.sides) own.course courses.port)
   where
     least : Float
@@ -132,10 +138,13 @@ pub record HeldEncounter (own : Vessel) (contact : Contact) (target : Vessel) (c
   pub least : T (fits binary64 c.least_alteration.0)
   pub most : T (fits binary64 c.most_alteration.0)
 
-module _ (own : Vessel) (contact : Contact) (target : Vessel) (desired : Distance) (c : ManoeuvreConstraints) (k : HeldEncounter own contact target c) (w : Result (Unit {0}) Refusal) (is : w ≡ verdict (avoid_checks own contact target desired c) (Ok tt)) where
+module _ (own : Vessel) (contact : Contact) (target : Vessel) (desired : Distance) (c : ManoeuvreConstraints) (k : HeldEncounter own contact target c)
+    (w : Result (Unit {0}) Refusal) (is : w ≡ verdict (avoid_checks own contact target desired c) (Ok tt)) where
   same : w ≡ (Ok tt) → avoided_as own contact target desired c ≡ avoided own contact target desired c
   unfolding avoided_as avoided avoid_checks encounter_checks
-  same e = ap (answered own c) (same_seeded own (clears_on own (floor_of desired) (moving (target_of contact target) ∷ [])) (trial_clears own (target_of contact target ∷ []) desired) (courses_in (course_answer own contact target desired)) c limits (λ side m s. same_trial own (target_of contact target ∷ []) desired own_fit targets side m s))
+  same e = ap (answered own c) (same_seeded own (clears_on own (floor_of desired) (moving (target_of contact target) ∷ []))
+      (trial_clears own (target_of contact target ∷ []) desired) (courses_in (course_answer own contact target desired)) c limits
+      (λ side m s. same_trial own (target_of contact target ∷ []) desired own_fit targets side m s))
     where
       good : AllGood (avoid_checks own contact target desired c)
       good = all_good (avoid_checks own contact target desired c) (sym is ∙ e)
@@ -159,7 +168,8 @@ module _ (own : Vessel) (contact : Contact) (target : Vessel) (desired : Distanc
       targets t m = ⊎_elim (λ e. subst FitTarget (sym e) target_fit) (λ n. absurd (Memᴰ.not-nil n)) (Memᴰ.cases_cons m)
 
       limits : Limits c.least_alteration.0 c.most_alteration.0
-      limits = limits_fit c k.least k.most (good_back (distance_checks desired) (constraint_checks c) (good_back (encounter_checks own contact target) (distance_checks desired ++ constraint_checks c) split))
+      limits = limits_fit c k.least k.most (good_back (distance_checks desired) (constraint_checks c)
+          (good_back (encounter_checks own contact target) (distance_checks desired ++ constraint_checks c) split))
 
   of : (u : Result (Unit {0}) Refusal) → w ≡ u → avoid_by u (avoided own contact target desired c) ≡ avoid_answer own contact target desired c
   unfolding avoid_answer

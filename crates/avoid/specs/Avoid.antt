@@ -36,7 +36,9 @@ abbrev pub target_of : Contact → Vessel → Target
 target_of contact target = record { contact = contact; vessel = target }
 
 unfoldable pub avoided : Vessel → Contact → Vessel → Distance → ManoeuvreConstraints → Result AvoidanceManoeuvre Refusal
-avoided own contact target desired c = answered own c (seeded_choice own (trial_clears own (target_of contact target ∷ []) desired) (courses_in (course_answer own contact target desired)) c)
+avoided own contact target desired c =
+    let clears = trial_clears own (target_of contact target ∷ []) desired in
+    answered own c (seeded_choice own clears (courses_in (course_answer own contact target desired)) c)
 
 -- own, contact, target, desired, constraints
 unfoldable pub avoid_checks : Vessel → Contact → Vessel → Distance → ManoeuvreConstraints → List Check
@@ -51,7 +53,9 @@ avoid_answer own contact target desired c = avoid_by (verdict (avoid_checks own 
 
 -- ---- what is computed, from offset and velocity; the same on accepted arguments
 unfoldable pub avoided_as : Vessel → Contact → Vessel → Distance → ManoeuvreConstraints → Result AvoidanceManoeuvre Refusal
-avoided_as own contact target desired c = answered own c (seeded_choice own (clears_on own (floor_of desired) (moving (target_of contact target) ∷ [])) (courses_in (course_answer own contact target desired)) c)
+avoided_as own contact target desired c =
+    let clears = clears_on own (floor_of desired) (moving (target_of contact target) ∷ []) in
+    answered own c (seeded_choice own clears (courses_in (course_answer own contact target desired)) c)
 
 -- document 01's number of an answer, 0 where it is answered
 abbrev pub avoid_number : Result AvoidanceManoeuvre Refusal → ℕ

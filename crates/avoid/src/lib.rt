@@ -15,6 +15,7 @@ use motion::vessel::{Contact, Vessel};
 use passages::Target;
 use seeds::{courses_in, seeded_choice};
 
+// Apart from `ruled`'s of this name: one function would need one type of answer, and this one is a signed alteration that no contact limits.
 fn manoeuvre_of(own: Vessel, c: ManoeuvreConstraints, x: Chosen) -> AvoidanceManoeuvre
     ensures { result ≡ Spec.manoeuvre_of own c x }
 {
@@ -29,7 +30,7 @@ fn manoeuvre_of(own: Vessel, c: ManoeuvreConstraints, x: Chosen) -> AvoidanceMan
 }
 
 // With accepted arguments.
-#[tactic(auto, unfolding(crate::specs::Avoid::avoided_as, clearing::specs::Clearing::floor_of))]
+#[tactic(auto, unfolding(crate::specs::Avoid::avoided_as))]
 fn avoided(
     own: Vessel,
     contact: Contact,
@@ -44,12 +45,7 @@ fn avoided(
         contact,
         vessel: target,
     });
-    let search = Search {
-        own,
-        scene: &[m],
-        floor: desired.0 - 1e-9,
-    };
-    seeded_choice(&search, courses, c)
+    seeded_choice(&Search::new(own, &[m], desired), courses, c)
         .map(|x| manoeuvre_of(own, c, x))
         .ok_or(Refusal::NoTrialClears)
 }

@@ -1,3 +1,2 @@
 -- What the arguments of avoidance owe.
 pub mod Filling
-pub mod Made

@@ -11,7 +11,7 @@ use motion::units::{Angle, RateOfTurn};
 use room::MAX_CONTACTS;
 use traffic::Entry;
 
-// 0 either side, 1 starboard, 2 port.
+// 0 either side, 1 starboard, 2 and above port. A table, and no `From`: the code is the C interface's, which `PermittedSides` doesn't know.
 #[tactic(auto, unfolding(crate::specs::Codes::permitted_sides))]
 pub fn permitted_sides(code: u32) -> PermittedSides
     ensures { result ≡ Spec.permitted_sides code }
@@ -24,6 +24,7 @@ pub fn permitted_sides(code: u32) -> PermittedSides
 }
 
 // Constraints, with a rate of turn where `known` is not 0; the first refusal that making them meets.
+#[tactic(auto, unfolding(crate::specs::Codes::constraints_of))]
 pub fn constraints_of(
     sides: u32,
     least: f64,
@@ -33,17 +34,15 @@ pub fn constraints_of(
 ) -> Result<ManoeuvreConstraints, Refusal>
     ensures { result ≡ Spec.constraints_of sides least most known rate }
 {
-    let made = ManoeuvreConstraints::new(permitted_sides(sides), Angle(least), Angle(most));
+    let c = ManoeuvreConstraints::new(permitted_sides(sides), Angle(least), Angle(most))?;
     if known == 0 {
-        return made;
+        return Ok(c);
     }
-    match made {
-        Ok(c) => c.with_rate_of_turn(RateOfTurn(rate)),
-        Err(why) => Err(why),
-    }
+    c.with_rate_of_turn(RateOfTurn(rate))
 }
 
 // Bearing, range, course, speed, heading, and a code: the category, and 8 more where the heading is known.
+#[tactic(auto, unfolding(crate::specs::Codes::entry_at))]
 fn entry_at(floats: &[f64], at: usize) -> Entry
     requires { at < 1000 }
     ensures { result ≡ Spec.entry_at floats.now at }
@@ -61,14 +60,12 @@ fn entry_at(floats: &[f64], at: usize) -> Entry
 }
 
 // Where a contact's floats begin: after eight of six each, or after five of four each.
+#[tactic(auto, unfolding(crate::specs::Codes::place_of))]
 fn place_of(wide: bool, i: usize) -> usize
     requires { i < 100 }
     ensures { result ≡ Spec.place_of wide i }
 {
-    if wide {
-        return 8 + 6 * i;
-    }
-    5 + 4 * i
+    if wide { 8 + 6 * i } else { 5 + 4 * i }
 }
 
 // The first `count` contacts of a list of floats, at most MAX_CONTACTS.

@@ -7,14 +7,11 @@ ghost use Rattle.avoidance_words.specs.Words as Spec;
 use motion::side::Side;
 use time::Duration;
 
-// 0 starboard, 1 port: the codes of the C interface, since the enum has no numbers of its own.
+// 0 starboard, 1 port: the enum's own numbers.
 pub fn side_word(side: Side) -> u64
     ensures { result ≡ Spec.side_word side }
 {
-    match side {
-        Side::Starboard => 0,
-        Side::Port => 1,
-    }
+    side as u64
 }
 
 // The contact's place plus 1, or 0 for nobody.

@@ -44,7 +44,9 @@ bow_by (Ok tt) a = a
 bow_by (Err why) a = Err why
 
 unfoldable pub bow_answer : Vessel → Contact → Vessel → Result Distance Refusal
-bow_answer own contact target = bow_by (verdict (encounter_checks own contact target) (Ok tt)) (crossing contact.range.0 (offset contact) (relative_velocity own target) (unit own.course.0))
+bow_answer own contact target =
+    bow_by (verdict (encounter_checks own contact target) (Ok tt))
+    (crossing contact.range.0 (offset contact) (relative_velocity own target) (unit own.course.0))
 
 -- document 01's number of an answer, 0 where it is answered, and its value
 abbrev pub bow_number : Result Distance Refusal → ℕ

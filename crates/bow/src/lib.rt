@@ -9,6 +9,7 @@ use elementary::error::Refusal;
 use motion::units::Distance;
 use motion::vessel;
 use motion::vessel::{Components, Contact, Vessel};
+use relative_motion::approach::Relative;
 
 // Below this a determinant says that the contact moves along own track.
 const PARALLEL: f64 = 1e-12;
@@ -16,17 +17,17 @@ const PARALLEL: f64 = 1e-12;
 // How far astern, in parts of the range, still counts as over own craft.
 const TOLERANCE: f64 = 1e-9;
 
-// offset + relative * time = ahead * range, solved for the time and the range.
+// offset + velocity * time = ahead * range, solved for the time and the range.
 #[tactic(auto, unfolding(crate::specs::Bow::crossing, crate::specs::Bow::determinant))]
-pub fn crossing(
-    range: f64,
-    offset: Components,
-    relative: Components,
-    ahead: Components,
-) -> Result<Distance, Refusal>
-    ensures { result ≡ Spec.crossing range offset relative ahead }
+pub fn crossing(seen: Relative, ahead: Components) -> Result<Distance, Refusal>
+    ensures { result ≡ Spec.crossing seen.range.0 seen.offset seen.velocity ahead }
 {
-    let determinant = relative.north * -ahead.east - relative.east * -ahead.north;
+    let Relative {
+        range,
+        offset,
+        velocity,
+    } = seen;
+    let determinant = velocity.north * -ahead.east - velocity.east * -ahead.north;
     if math::abs(determinant) < PARALLEL {
         return Err(Refusal::AlongOwnTrack);
     }
@@ -34,8 +35,8 @@ pub fn crossing(
     if time <= 0.0 {
         return Err(Refusal::NotAhead);
     }
-    let range_ahead = (relative.east * offset.north - relative.north * offset.east) / determinant;
-    if range_ahead < -(range * TOLERANCE) {
+    let range_ahead = (velocity.east * offset.north - velocity.north * offset.east) / determinant;
+    if range_ahead < -(range.0 * TOLERANCE) {
         return Err(Refusal::NotAhead);
     }
     Ok(Distance(math::larger(0.0, range_ahead)))
@@ -52,9 +53,7 @@ pub fn bow_crossing_range(
 {
     arguments::check_encounter(own, contact, target)?;
     crossing(
-        contact.range.0,
-        contact.offset(),
-        vessel::relative_velocity(own, target),
+        Relative::of(own, contact, target),
         vessel::unit(own.course.0),
     )
 }

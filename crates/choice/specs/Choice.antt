@@ -1,4 +1,5 @@
--- The choice among the trials of both sides (01, 'Trial list': 'for each permitted side, starboard first … the first grid trial that clears. The smaller choice wins, starboard on equality. A trial is a side and a magnitude').
+-- The choice among the trials of both sides (01, 'Trial list': 'for each permitted side, starboard first … the first grid trial that clears.
+-- The smaller choice wins, starboard on equality. A trial is a side and a magnitude').
 use Rattle.std.specs.Prelude.{Bool, true, false, cond, List, Float, None, Some}
 use Rattle.std.specs.Float.Ieee.{neg, lt}
 use Rattle.laws.specs.Fold.{fold}

@@ -10,9 +10,10 @@ ghost use Rattle.choice.specs.Choice as Spec;
 
 use clearing::Passing;
 use motion::side::Side;
-use motion::units::{Angle, Direction};
+use motion::units::{Angle, Direction, Distance};
 use motion::vessel::Vessel;
 use passages::Moving;
+use trials::TrialList;
 
 // The sides to which own craft may alter.
 #[derive(Clone, Copy)]
@@ -70,6 +71,20 @@ pub struct Search<'a> {
 }
 
 impl<'a> Search<'a> {
+    // The search for a distance that is wanted: its floor is 1e-9 below, since an exact answer lands on the distance.
+    #[tactic(auto, unfolding(clearing::specs::Clearing::floor_of))]
+    pub fn new(own: Vessel, scene: &'a [Moving], desired: Distance) -> Search<'a>
+        ensures own { result.own ≡ own }
+        ensures scene { result.scene.now ≡ scene.now }
+        ensures floor { result.floor ≡ Clearing.floor_of desired }
+    {
+        Search {
+            own,
+            scene,
+            floor: desired.0 - 1e-9,
+        }
+    }
+
     // A trial, on a side that is permitted or not.
     #[tactic(auto, unfolding(crate::specs::Choice::clears_on))]
     pub fn try_side(&self, permitted: bool, side: Side, magnitude: f64) -> Option<Chosen>
@@ -91,6 +106,7 @@ impl<'a> Search<'a> {
     fn try_both(&self, sides: Sides, magnitude: f64) -> Option<Chosen>
         ensures { result ≡ Spec.tried_both self.now.own self.now.floor self.now.scene.now sides magnitude }
     {
+        // A match: of a closure that borrows a type with a lifetime, here `&Search<'a>`, `or_else` says nothing of what it returns.
         match self.try_side(sides.starboard, Side::Starboard, magnitude) {
             Some(c) => Some(c),
             None => self.try_side(sides.port, Side::Port, magnitude),
@@ -98,16 +114,9 @@ impl<'a> Search<'a> {
     }
 
     // The smallest trial on a permitted side that clears the scene.
-    pub fn smallest(&self, sides: Sides, least: f64, most: f64) -> Option<Chosen>
-        ensures { result ≡ Spec.smallest self.now.own self.now.floor self.now.scene.now sides least most }
+    pub fn smallest(&self, sides: Sides, list: TrialList) -> Option<Chosen>
+        ensures { result ≡ Spec.smallest self.now.own self.now.floor self.now.scene.now sides list.least list.most }
     {
-        let count = trials::count(least, most);
-        for k in 0..count {
-            let c = self.try_both(sides, trials::trial(least, most, k));
-            if c.is_some() {
-                return c;
-            }
-        }
-        None
+        (0..list.count()).find_map(|k| self.try_both(sides, list.trial(k)))
     }
 }

@@ -84,7 +84,8 @@ module _ (sides : Sides) (clears : Side → Float → Option Passing) (ms : List
 
   -- both sides have one
   both : (a b : Chosen) → s ≡ Some a → p ≡ Some b → (t : Bool) → lt b.magnitude.0 a.magnitude.0 ≡ t → (c : Chosen) → cond t (Some b) (Some a) ≡ Some c → IsChoice sides clears ms c
-  both a b ea eb true l c e = subst (IsChoice sides clears ms) (same_choice b c e) (on_port b eb (λ m t h q. starboard.1.least m h (⊎_elim (λ k. lt_trans m b.magnitude.0 a.magnitude.0 k (holds l)) (λ k. eq-lt m b.magnitude.0 a.magnitude.0 k (holds l)) q)))
+  both a b ea eb true l c e = subst (IsChoice sides clears ms) (same_choice b c e)
+      (on_port b eb (λ m t h q. starboard.1.least m h (⊎_elim (λ k. lt_trans m b.magnitude.0 a.magnitude.0 k (holds l)) (λ k. eq-lt m b.magnitude.0 a.magnitude.0 k (holds l)) q)))
     where
       starboard : T sides.starboard × IsFirst (clears Starboard) Starboard ms a
       starboard = side_found (clears Starboard) Starboard ms up sides.starboard a ea

@@ -16,9 +16,7 @@ use Rattle.laws.proofs.Order.{lt_not_self, le_of_lt_float, lt_le_trans, le-or-lt
 use Rattle.motion.specs.declared.units.Distance.{Distance}
 use Rattle.std.specs.declared.option.Option.{Option}
 use Rattle.clearing.specs.declared.Passing.{Passing}
-use Rattle.clearing.specs.declared.Tally.{Tally}
-use Rattle.clearing.specs.declared.Tally.TheVariants.{Stopped, Free, Least}
-use Rattle.clearing.specs.Clearing.{largest, least, join, tally, cleared, clearing}
+use Rattle.clearing.specs.Clearing.{largest, least, nearer, nobody, tally, clearing}
 use Rattle.choice_laws.specs.Closest.{Real, Closest}
 
 -- ---- cases of passages
@@ -37,11 +35,14 @@ at other (Some d) = d
 le_self : (x : Float) → T (not (is_nan x)) → T (le x x)
 le_self x n = ⊎_elim (λ h. h) (λ h. absurd (lt_not_self x h)) (le-or-lt x x n n)
 
--- ---- what a tally says of the passages that it has seen
-abbrev Says : List (Option Distance) → Tally → Type 0
-Says seen Stopped = Memᴰ None seen
-Says seen Free = seen ≡ []
-Says seen (Least l) = Closest seen l
+-- ---- what the closest so far says of the passages that were seen, and what comes of all of them
+abbrev Says : List (Option Distance) → Option Passing → Type 0
+Says seen None = seen ≡ []
+Says seen (Some l) = Closest seen l
+
+abbrev Ends : List (Option Distance) → Option Passing → Type 0
+Ends all None = Memᴰ None all
+Ends all (Some p) = ((all ≡ []) × (p ≡ nobody)) ⊎ Closest all p
 
 -- one more
 module _ (seen : List (Option Distance)) (d : Distance) (real : T (not (is_nan d.0))) where
@@ -73,63 +74,44 @@ module _ (seen : List (Option Distance)) (d : Distance) (real : T (not (is_nan d
 closest_real : (seen : List (Option Distance)) (l : Passing) → Real seen → Closest seen l → T (not (is_nan l.distance.0))
 closest_real seen l real c = real l.distance (subst (λ s. Memᴰ (Some l.distance) s) (sym c.split) (Memᴰ.append_right c.before (Memᴰ.head refl)))
 
-step : (seen : List (Option Distance)) (t : Tally) (p : Option Distance) → Real (seen ++ (p ∷ [])) → Says seen t → Says (seen ++ (p ∷ [])) (join t (length seen) p)
-unfolding join
-step seen t None real s = Memᴰ.append_right seen (Memᴰ.head refl)
-step seen Stopped (Some d) real s = Memᴰ.append_left (Some d ∷ []) s
-step seen Free (Some d) real s = new seen d (real d (Memᴰ.append_right seen (Memᴰ.head refl))) (λ q m. absurd (Memᴰ.not-nil (subst (Memᴰ q) s m)))
-step seen (Least l) (Some d) real s = go (lt d.0 l.distance.0) refl
+step : (seen : List (Option Distance)) (closest : Option Passing) (d : Distance) → Real (seen ++ (Some d ∷ [])) → Says seen closest → Closest (seen ++ (Some d ∷ [])) (nearer closest (length seen) d)
+unfolding nearer
+step seen None d real s = new seen d (real d (Memᴰ.append_right seen (Memᴰ.head refl))) (λ q m. absurd (Memᴰ.not-nil (subst (Memᴰ q) s m)))
+step seen (Some l) d real s = go (lt d.0 l.distance.0) refl
   where
-    go : (b : Bool) → lt d.0 l.distance.0 ≡ b → Says (seen ++ (Some d ∷ [])) (cond b (Least (least d (length seen))) (Least l))
+    go : (b : Bool) → lt d.0 l.distance.0 ≡ b → Closest (seen ++ (Some d ∷ [])) (cond b (least d (length seen)) l)
     go true h = new seen d (real d (Memᴰ.append_right seen (Memᴰ.head refl))) (λ q m. let o = s.each q m in (o.0, o.1, lt_le_trans d.0 l.distance.0 o.0.0 (holds h) o.2))
     go false h = old seen d (real d (Memᴰ.append_right seen (Memᴰ.head refl))) l h (closest_real seen l (λ e m. real e (Memᴰ.append_left (Some d ∷ []) m)) s) s
 
 -- all of them
-says : (seen ps : List (Option Distance)) (t : Tally) → Real (seen ++ ps) → Says seen t → Says (seen ++ ps) (tally (length seen) t ps)
+says : (seen ps : List (Option Distance)) (closest : Option Passing) → Real (seen ++ ps) → Says seen closest → Ends (seen ++ ps) (tally (length seen) closest ps)
 unfolding tally
-says seen [] t real s = subst (λ l. Says l t) (sym (append-nil seen)) s
-says seen (p ∷ ps) t real s =
-    subst (λ l. Says l (tally (suc (length seen)) (join t (length seen) p) ps)) (append_assoc seen (p ∷ []) ps)
-    (subst (λ n. Says (seen ++ (p ∷ []) ++ ps) (tally n (join t (length seen) p) ps)) (length-append seen (p ∷ []) ∙ add-one (length seen))
-    (says (seen ++ (p ∷ [])) ps (join t (length seen) p) (subst Real (sym (append_assoc seen (p ∷ []) ps)) real) (step seen t p (λ d m. real d (subst (Memᴰ (Some d)) (append_assoc seen (p ∷ []) ps) (Memᴰ.append_left ps m))) s)))
+says seen [] None real s = inl (append-nil seen ∙ s, refl)
+says seen [] (Some l) real s = inr (subst (λ k. Closest k l) (sym (append-nil seen)) s)
+says seen (None ∷ ps) closest real s = Memᴰ.append_right seen (Memᴰ.head refl)
+says seen (Some d ∷ ps) closest real s =
+    let next = nearer closest (length seen) d in
+    subst (λ l. Ends l (tally (suc (length seen)) (Some next) ps)) (append_assoc seen (Some d ∷ []) ps)
+    (subst (λ n. Ends ((seen ++ (Some d ∷ [])) ++ ps) (tally n (Some next) ps)) (length-append seen (Some d ∷ []) ∙ add-one (length seen))
+    (says (seen ++ (Some d ∷ [])) ps (Some next) (subst Real (sym (append_assoc seen (Some d ∷ []) ps)) real)
+    (step seen closest d (λ e m. real e (subst (Memᴰ (Some e)) (append_assoc seen (Some d ∷ []) ps) (Memᴰ.append_left ps m))) s)))
 
 module _ (ps : List (Option Distance)) (real : Real ps) where
-  tallied : Says ps (tally 0 Free ps)
-  tallied = says [] ps Free real refl
-
-  abbrev passes : Option Passing → Bool
-  passes None = false
-  passes (Some p) = true
-
-  abbrev passing : Passing → Option Passing → Passing
-  passing other None = other
-  passing other (Some p) = p
+  ends : Ends ps (clearing ps)
+  unfolding clearing
+  ends = says [] ps None real refl
 
   -- it clears exactly if none blocks
   pub blocked : clearing ps ≡ None → Memᴰ None ps
-  unfolding clearing
-  blocked e = go (tally 0 Free ps) tallied e
-    where
-      go : (t : Tally) → Says ps t → cleared t ≡ None → Memᴰ None ps
-      go Stopped s e = s
-      go Free s e = absurd (true≢false (ap passes e))
-      go (Least l) s e = absurd (true≢false (ap passes e))
+  blocked e = subst (Ends ps) e ends
 
   pub blocks_it : Memᴰ None ps → clearing ps ≡ None
-  unfolding clearing
-  blocks_it m = go (tally 0 Free ps) tallied
+  blocks_it m = go (clearing ps) ends
     where
-      go : (t : Tally) → Says ps t → cleared t ≡ None
-      go Stopped s = refl
-      go Free s = absurd (Memᴰ.not-nil (subst (Memᴰ None) s m))
-      go (Least l) s = let o = s.each None m in absurd (not_blocked o.0 o.1)
+      go : (o : Option Passing) → Ends ps o → o ≡ None
+      go None s = refl
+      go (Some p) s = absurd (⊎_elim (λ n. Memᴰ.not-nil (subst (Memᴰ None) n.0 m)) (λ c. let o = c.each None m in not_blocked o.0 o.1) s)
 
   -- and then nobody limits it where there are no contacts, and else the closest does
   pub clear : (p : Passing) → clearing ps ≡ Some p → ((ps ≡ []) × (p ≡ record { distance = record { 0 = largest }; limiting = None })) ⊎ Closest ps p
-  unfolding clearing
-  clear p e = go (tally 0 Free ps) tallied e
-    where
-      go : (t : Tally) → Says ps t → cleared t ≡ Some p → ((ps ≡ []) × (p ≡ record { distance = record { 0 = largest }; limiting = None })) ⊎ Closest ps p
-      go Stopped s e = absurd (true≢false (sym (ap passes e)))
-      go Free s e = inl (s, sym (ap (passing p) e))
-      go (Least l) s e = inr (subst (Closest ps) (ap (passing p) e) s)
+  clear p e = subst (Ends ps) e ends

@@ -84,7 +84,8 @@ module _ (own : Vessel) (floor : Float) (t : Target) (o : FitVessel own) (f : Fi
   unfolding approach_from
   at_range h = go (lt (relative_speed relative) stationary_knots) refl
     where
-      go : (b : Bool) → lt (relative_speed relative) stationary_knots ≡ b → passed floor (passing_in (cond b (Stationary t.contact.range) (cond (le (time_of position relative) Check.zero) (Opening t.contact.range) ahead))) ≡ Some t.contact.range
+      go : (b : Bool) → lt (relative_speed relative) stationary_knots ≡ b
+          → passed floor (passing_in (cond b (Stationary t.contact.range) (cond (le (time_of position relative) Check.zero) (Opening t.contact.range) ahead))) ≡ Some t.contact.range
       go true m = refl
       go false m = ap (λ c. passed floor (passing_in (cond c (Opening t.contact.range) ahead))) (not-closing position relative parts m h)
 
@@ -92,7 +93,8 @@ module _ (own : Vessel) (floor : Float) (t : Target) (o : FitVessel own) (f : Fi
   unfolding passage_at moving relative_velocity
   same_passage = plain ∙ go (le Check.zero (closing_rate position relative)) refl
     where
-      go : (b : Bool) → le Check.zero (closing_rate position relative) ≡ b → passed floor (passing_in (approach_from t.contact.range position relative)) ≡ cond b (Some t.contact.range) (passed floor (passing_in (approach_from t.contact.range position relative)))
+      go : (b : Bool) → le Check.zero (closing_rate position relative) ≡ b → passed floor (passing_in (approach_from t.contact.range position relative))
+          ≡ cond b (Some t.contact.range) (passed floor (passing_in (approach_from t.contact.range position relative)))
       go true h = at_range h
       go false h = refl
 
@@ -126,7 +128,8 @@ module _ (own : Vessel) (o : FitVessel own) (ts : List Target) (f : FitTargets t
   real floor d m = let u = Memᴰ.of_map (passage own floor) ts m in no_nan d.0 (distances own floor u.0 o (f u.0 u.1) d u.2)
 
   pub same_passages : (floor : Float) → map (passage own floor) ts ≡ map (passage_at (velocity own) floor) (map moving ts)
-  same_passages floor = map_agree (passage own floor) (λ t. passage_at (velocity own) floor (moving t)) ts (λ t m. same_passage own floor t o (f t m)) ∙ sym (map-map (passage_at (velocity own) floor) moving ts)
+  same_passages floor = map_agree (passage own floor) (λ t. passage_at (velocity own) floor (moving t)) ts (λ t m. same_passage own floor t o (f t m))
+      ∙ sym (map-map (passage_at (velocity own) floor) moving ts)
 
 pub same_clears : (own : Vessel) (a : Float) (ts : List Target) (desired : Distance) → FitVessel own → Small 9 0 a → FitTargets ts
     → clears own a ts desired ≡ clears_at (velocity (altered own a)) (floor_of desired) (map moving ts)

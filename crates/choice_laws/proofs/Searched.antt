@@ -64,7 +64,8 @@ pub same_first : (f g : Float → Option Passing) (side : Side) (ms : List Float
 unfolding first
 same_first f g side ms h = same_steps f g side None ms h
 
-same_side_lem : (permitted : Bool) (f g : Float → Option Passing) (side : Side) (ms : List Float) → ((m : Float) → Memᴰ m ms → f m ≡ g m) → side_choice permitted f side ms ≡ side_choice permitted g side ms
+same_side_lem : (permitted : Bool) (f g : Float → Option Passing) (side : Side) (ms : List Float) → ((m : Float) → Memᴰ m ms → f m ≡ g m)
+    → side_choice permitted f side ms ≡ side_choice permitted g side ms
 unfolding side_choice
 same_side_lem permitted f g side ms h = ap (λ c. cond permitted c None) (same_first f g side ms h)
 

@@ -61,7 +61,8 @@ module _ (f g : Float → Option Passing) where
   kept c (m ∷ ms) = kept c ms
 
   -- starboard's first is at m: port's choice is not smaller
-  over_starboard : (m : Float) (ms : List Float) (p : Passing) → Ascending (m ∷ ms) → (k : Option Chosen) → first g Port ms ≡ k → smaller (Some (taken f Starboard m p)) k ≡ Some (taken f Starboard m p)
+  over_starboard : (m : Float) (ms : List Float) (p : Passing) → Ascending (m ∷ ms) → (k : Option Chosen) → first g Port ms ≡ k
+      → smaller (Some (taken f Starboard m p)) k ≡ Some (taken f Starboard m p)
   over_starboard m ms p up None e = refl
   over_starboard m ms p up (Some c) e = starboard_wins (taken f Starboard m p) c (not_less m c.magnitude.0 (up.0 c.magnitude.0 (is_first g Port ms up.1 c e).listed))
 
@@ -75,16 +76,20 @@ module _ (f g : Float → Option Passing) where
   together_is [] up = refl
   together_is (m ∷ ms) up = go (f m) refl (g m) refl (together_is ms up.1)
     where
-      go : (a : Option Passing) → f m ≡ a → (b : Option Passing) → g m ≡ b → together ms ≡ smaller (first f Starboard ms) (first g Port ms) → fold or (at m) ms ≡ smaller (first f Starboard (m ∷ ms)) (first g Port (m ∷ ms))
+      go : (a : Option Passing) → f m ≡ a → (b : Option Passing) → g m ≡ b → together ms ≡ smaller (first f Starboard ms) (first g Port ms)
+          → fold or (at m) ms ≡ smaller (first f Starboard (m ∷ ms)) (first g Port (m ∷ ms))
       go (Some p) e (Some q) h rest =
           ap (λ a. fold or (or_else (chosen Starboard m a) (chosen Port m (g m))) ms) e ∙ kept (taken f Starboard m p) ms
-          ∙ sym (starboard_wins (taken f Starboard m p) (taken g Port m q) (lt_self m)) ∙ sym (ap (λ k. smaller k (Some (taken g Port m q))) (clears-first f Starboard m ms p e)) ∙ sym (ap (smaller (first f Starboard (m ∷ ms))) (clears-first g Port m ms q h))
+          ∙ sym (starboard_wins (taken f Starboard m p) (taken g Port m q) (lt_self m))
+          ∙ sym (ap (λ k. smaller k (Some (taken g Port m q))) (clears-first f Starboard m ms p e)) ∙ sym (ap (smaller (first f Starboard (m ∷ ms))) (clears-first g Port m ms q h))
       go (Some p) e None h rest =
           ap (λ a. fold or (or_else (chosen Starboard m a) (chosen Port m (g m))) ms) e ∙ kept (taken f Starboard m p) ms
-          ∙ sym (over_starboard m ms p up (first g Port ms) refl) ∙ sym (ap (λ k. smaller k (first g Port ms)) (clears-first f Starboard m ms p e)) ∙ sym (ap (smaller (first f Starboard (m ∷ ms))) (not_first g Port m ms h))
+          ∙ sym (over_starboard m ms p up (first g Port ms) refl) ∙ sym (ap (λ k. smaller k (first g Port ms)) (clears-first f Starboard m ms p e))
+          ∙ sym (ap (smaller (first f Starboard (m ∷ ms))) (not_first g Port m ms h))
       go None e (Some q) h rest =
           ap (λ a. fold or (or_else (chosen Starboard m a) (chosen Port m (g m))) ms) e ∙ ap (λ b. fold or (chosen Port m b) ms) h ∙ kept (taken g Port m q) ms
-          ∙ sym (over_port m ms q up (first f Starboard ms) refl) ∙ sym (ap (λ k. smaller k (Some (taken g Port m q))) (not_first f Starboard m ms e)) ∙ sym (ap (smaller (first f Starboard (m ∷ ms))) (clears-first g Port m ms q h))
+          ∙ sym (over_port m ms q up (first f Starboard ms) refl) ∙ sym (ap (λ k. smaller k (Some (taken g Port m q))) (not_first f Starboard m ms e))
+          ∙ sym (ap (smaller (first f Starboard (m ∷ ms))) (clears-first g Port m ms q h))
       go None e None h rest =
           ap (λ a. fold or (or_else (chosen Starboard m a) (chosen Port m (g m))) ms) e ∙ ap (λ b. fold or (chosen Port m b) ms) h ∙ rest
           ∙ sym (ap (λ k. smaller k (first g Port ms)) (not_first f Starboard m ms e)) ∙ sym (ap (smaller (first f Starboard (m ∷ ms))) (not_first g Port m ms h))
@@ -102,9 +107,13 @@ module _ (sides : Sides) (clears : Side → Float → Option Passing) where
   steps c [] = refl
   steps (Some c) (m ∷ ms) = steps (Some c) ms
   steps None (m ∷ ms) =
-      ap (λ c. fold (or_both sides clears) c ms) (ap (λ s. or_else s (tried sides.port Port m (clears Port m))) (tried_is sides.starboard Starboard m (clears Starboard m)) ∙ ap (or_else (chosen Starboard m (f m))) (tried_is sides.port Port m (clears Port m)))
+      ap (λ c. fold (or_both sides clears) c ms)
+      (ap (λ s. or_else s (tried sides.port Port m (clears Port m))) (tried_is sides.starboard Starboard m (clears Starboard m))
+      ∙ ap (or_else (chosen Starboard m (f m))) (tried_is sides.port Port m (clears Port m)))
       ∙ steps (at f g m) ms
 
   pub between_is_choice : (ms : List Float) → Ascending ms → between sides clears ms ≡ choice sides clears ms
   unfolding between choice
-  between_is_choice ms up = steps None ms ∙ together_is f g ms up ∙ ap (λ s. smaller s (first g Port ms)) (sym (side_is sides.starboard (clears Starboard) Starboard ms)) ∙ ap (smaller (side_choice sides.starboard (clears Starboard) Starboard ms)) (sym (side_is sides.port (clears Port) Port ms))
+  between_is_choice ms up = steps None ms ∙ together_is f g ms up
+      ∙ ap (λ s. smaller s (first g Port ms)) (sym (side_is sides.starboard (clears Starboard) Starboard ms))
+      ∙ ap (smaller (side_choice sides.starboard (clears Starboard) Starboard ms)) (sym (side_is sides.port (clears Port) Port ms))

@@ -1,7 +1,8 @@
 -- What the code owes, step by step.
-use Rattle.std.proofs.Common.{◌≡◌, ℕ, ◌+◌, ◌-◌, ◌*◌, ◌/◌, ◌%◌, ◌^◌, ◌<◌, ◌≤◌, Bool, true, false, cond, not, T, eqb, ltb, leb, pos, negsuc, sym, refl, ap, ◌∙◌, subst, le_trans, lt_of_le_of_lt, mul-le-mul_right, arith, lit<, lit≤, le→leb, ltb→lt, lt→ltb, nltb→le, pow_pos}
+use Rattle.std.proofs.Common.{◌≡◌, ℕ, suc, ◌+◌, ◌*◌, ◌/◌, ◌%◌, ◌^◌, ◌<◌, ◌≤◌, Bool, true, false, cond, not, T, eqb, ltb, leb, pos, negsuc, sym, refl, ap, ◌∙◌, subst, le_trans, lt_of_le_of_lt, mul-le-mul_right, arith, lit<, lit≤, ltb→lt, lt→ltb, nltb→le, pow_pos}
 use native.Mathlib.Nat.{div-le_of_le-mul}
-use lib.Ieee.{Float, nan, inf, fin, binary64, fits, up, down, neg, mul, div, round, of_int, to_unsigned, in_float, lt, le, unlike, of_bits}
+use Rattle.std.specs.Int.{abs_diff}
+use lib.Ieee.{Float, nan, inf, fin, binary64, fits, up, down, neg, mul, div, round, to_unsigned, lt, le, unlike, of_bits}
 use lib.Ieee.Bits.{is_true}
 use lib.Ieee.Exact.{HasValue}
 use lib.Ieee.Fits.{eq→eqb}
@@ -9,7 +10,7 @@ use lib.Ieee.Scale.{finite}
 use Rattle.laws.specs.Units.{Units, sign, units_of}
 use Rattle.laws.proofs.Bools.{holds, fails, refuted}
 use Rattle.laws.proofs.Compare.{lt-units, lt-units-signed}
-use Rattle.laws.proofs.Exact.{mul_power, to_unsigned_lem, castable_value, whole-value, over_power, zero_by_zero}
+use Rattle.laws.proofs.Exact.{mul_power, to_unsigned_lem, castable_value, zero_by_zero}
 use Rattle.laws.proofs.Units.{own_units}
 use Rattle.math.specs.Sign.{abs}
 use Rattle.math.proofs.Sign.{abs-units, units_of-abs, neg-round}
@@ -36,41 +37,15 @@ module _ (a : Float) (t : T (fits binary64 a)) (d : T (in_domain a)) (s : sign a
   unfolding scaled
   units_is r e = let g : r ≡ units_of a * 2 ^ 58 / 2 ^ 1074 = e ∙ to_unsigned_lem 64 (mul binary64 a (fin false 1 (pos 58))) (units_of a * 2 ^ 58) (2 ^ 1074) (pow_pos 1074) product (lt_of_le_of_lt few (lit< tt)) in (g, subst (λ n. n ≤ 2 ^ 62) (sym g) few)
 
--- ---- distance
-pub distance_below : (a b : ℕ) → a < b → b - a ≡ distance a b
-unfolding distance
-distance_below a b h = omega arith
-
-pub distance_above : (a b : ℕ) → b ≤ a → a - b ≡ distance a b
-unfolding distance
-distance_above a b h = omega arith
-
 -- ---- from units
-pub grid_holds : (v : ℕ) → v ≤ 2 ^ 58 → T (in_float binary64 (pos ((v + 16) / 32)))
-unfolding in_float
-grid_holds v h = le→leb ((v + 16) / 32) (2 ^ 53) (go v h)
-  where
-    go : (v : ℕ) → v ≤ 2 ^ 58 → (v + 16) / 32 ≤ 2 ^ 53
-    go v h = omega arith
-
-grid_value : (v : ℕ) → v ≤ 2 ^ 58 → mul binary64 (of_int binary64 (pos ((v + 16) / 32))) (fin false 1 (negsuc 52)) ≡ round binary64 false ((v + 16) / 32) (2 ^ 53)
-grid_value v h = over_power (of_int binary64 (pos ((v + 16) / 32))) ((v + 16) / 32) 52 (whole-value ((v + 16) / 32) (go v h))
-  where
-    go : (v : ℕ) → v ≤ 2 ^ 58 → (v + 16) / 32 ≤ 2 ^ 53
-    go v h = omega arith
-
-pub grid_clear : (m : Bool) (v : ℕ) → v ≤ 2 ^ 58 → m ≡ false → mul binary64 (of_int binary64 (pos ((v + 16) / 32))) (fin false 1 (negsuc 52)) ≡ from_units m v
+pub grid_is : (m : Bool) (v : ℕ) → v ≤ 2 ^ 58 → (y : Float) → ((i : ℕ) → (v + 16) / 32 ≤ 2 ^ 53 → fin false 1 (negsuc 52) ≡ fin false 1 (negsuc i) → y ≡ round binary64 m ((v + 16) / 32) (2 ^ suc i)) → y ≡ from_units m v
 unfolding from_units
-grid_clear m v h e = grid_value v h ∙ ap (λ s. round binary64 s ((v + 16) / 32) (2 ^ 53)) (sym e)
-
-pub grid_set : (m : Bool) (v : ℕ) → v ≤ 2 ^ 58 → m ≡ true → neg (mul binary64 (of_int binary64 (pos ((v + 16) / 32))) (fin false 1 (negsuc 52))) ≡ from_units m v
-unfolding from_units
-grid_set m v h e = ap neg (grid_value v h) ∙ neg-round false ((v + 16) / 32) (2 ^ 53) ∙ ap (λ s. round binary64 s ((v + 16) / 32) (2 ^ 53)) (sym e)
+grid_is m v h y e = e 52 (omega arith) refl
 
 -- ---- turned
-module _ (n more k left : ℕ) (ek : k ≡ quarters n one) (el : left ≡ distance n (k * 452751216129820177)) where
+module _ (n more k left : ℕ) (ek : k ≡ quarters n one) (el : left ≡ abs_diff n (k * 452751216129820177)) where
   left_is : left ≡ rest n
-  unfolding rest removed
+  unfolding rest removed distance
   left_is = el ∙ ap (λ z. distance n (z * half_pi_units)) ek
 
   pub left_few : rest n ≤ 2 ^ 58 → left ≤ 2 ^ 58

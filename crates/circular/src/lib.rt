@@ -17,7 +17,7 @@ const LARGEST: f64 = 16.0;
 pub const TINY: f64 = 7.62939453125e-6;
 
 // One in units, as an f64: 2^58.
-pub const ONE: f64 = 288230376151711744.0;
+const ONE: f64 = 288230376151711744.0;
 
 // Half pi, and half of it, in whole units.
 const HALF_PI: u64 = 452751216129820177;
@@ -25,7 +25,7 @@ const HALF_PI: u64 = 452751216129820177;
 const QUARTER_PI: u64 = 226375608064910088;
 
 // The units in the size of a number of at most 16, cut to a whole number; none for any other.
-fn units(x: f64) -> Option<u64>
+pub fn units(x: f64) -> Option<u64>
     ensures { MatchOption result (Sine.in_domain x ≡ false) (λ n. (Sine.in_domain x ≡ true) × (n ≡ Sine.scaled x) × (n ≤ 2 ^ 62)) }
 {
     let a = math::abs(x);
@@ -50,21 +50,12 @@ fn quarters(n: u64) -> u64
     }
 }
 
-// How far two numbers are apart.
-fn distance(a: u64, b: u64) -> u64
-    ensures { result ≡ Angle.distance a b }
-{
-    if a < b { b - a } else { a - b }
-}
-
-// v units as an f64, to the nearest multiple of 2^-53, with the sign set or not. `math::multiple`
-// would test the number that is known here to be small: 1 instruction in 100 of a sine.
+// v units as an f64, to the nearest multiple of 2^-53, with the sign set or not.
 fn from_units(minus: bool, v: u64) -> f64
     requires { v ≤ 2 ^ 58 }
     ensures { result ≡ Sine.from_units minus v }
 {
-    let y = ((v + 16) / 32) as f64 * GRID;
-    if minus { -y } else { y }
+    math::multiple(minus, (v + 16) / 32, GRID)
 }
 
 // The sine of n units and `more` half pis.
@@ -74,7 +65,7 @@ fn turned(n: u64, more: u64) -> f64
 {
     let k = quarters(n);
     let multiple = k * HALF_PI;
-    let left = distance(n, multiple);
+    let left = n.abs_diff(multiple);
     let q = k + more;
     let back = q % 4 >= 2;
     if q % 2 == 0 {

@@ -1,8 +1,9 @@
--- The loop over the contacts: each turn joins one more of those that are left, and one that blocks decides, wherever it stands.
+-- The loop over the contacts: each turn takes one more of those that are left, and one that blocks decides, wherever it stands.
 use Rattle.std.specs.Prelude.{None, Some, is_some}
+use Rattle.std.specs.Option.{unwrap_or}
 use mathlib.Core.Path.{◌≡◌, refl, sym, ap, ◌∙◌}
 use mathlib.Core.Bool.{Bool, true, false, not, true≢false}
-use mathlib.Core.List.{List, [], ◌∷◌, map}
+use mathlib.Core.List.{List, ◌∷◌, map}
 use Prim.Native.Nat.{ℕ, zero, suc, ◌+◌, ◌<◌}
 use native.Mathlib.Nat.{le_of_lt, lt_of_lt_of_le}
 use native.Mathlib.Numerals.{add-one}
@@ -11,49 +12,50 @@ use lib.ListN.{length, get_or, drop}
 use lib.Seq.{drop-cons, drop-length}
 use Rattle.std.specs.declared.option.Option.{Option}
 use Rattle.motion.specs.declared.units.Distance.{Distance}
-use Rattle.clearing.specs.declared.Tally.{Tally}
-use Rattle.clearing.specs.declared.Tally.TheVariants.{Stopped, Free, Least}
-use Rattle.clearing.specs.Clearing.{join, tally, cleared, clearing, is_stopped}
-
--- one that blocks decides
-pub stays_stopped : (place : ℕ) (ps : List (Option Distance)) → tally place Stopped ps ≡ Stopped
-unfolding tally join
-stays_stopped place [] = refl
-stays_stopped place (None ∷ ps) = stays_stopped (suc place) ps
-stays_stopped place (Some d ∷ ps) = stays_stopped (suc place) ps
+use Rattle.clearing.specs.declared.Passing.{Passing}
+use Rattle.clearing.specs.Clearing.{nearer, nobody, tally, clearing}
 
 pub no : {P : Type 0} → false ≡ true → P
 no e = absurd (true≢false (sym e))
-
-is_stopped_lem : (t : Tally) → is_stopped t ≡ true → t ≡ Stopped
-is_stopped_lem Stopped h = refl
-is_stopped_lem Free h = absurd (true≢false (sym h))
-is_stopped_lem (Least l) h = absurd (true≢false (sym h))
 
 pub is_none_lem : (p : Option Distance) (b : Bool) → is_some p ≡ not b → b ≡ true → p ≡ None
 is_none_lem None b e h = refl
 is_none_lem (Some d) b e h = absurd (true≢false (e ∙ ap not h))
 
+-- one that blocks may stand later
+later : (place : ℕ) (closest : Option Passing) (p : Option Distance) (ps : List (Option Distance))
+    → ((d : Distance) → tally (suc place) (Some (nearer closest place d)) ps ≡ None) → tally place closest (p ∷ ps) ≡ None
+unfolding tally
+later place closest None ps h = refl
+later place closest (Some d) ps h = h d
+
 module _ {A : Type 0} (f : A → Option Distance) (l : List A) where
-  -- what is still to be joined, from i on
-  abbrev pub left : ℕ → Tally → Tally
-  left i t = tally i t (map f (drop i l))
+  -- what those from i on make of the closest so far
+  abbrev pub left : ℕ → Option Passing → Option Passing
+  left i closest = tally i closest (map f (drop i l))
 
-  pub step : (i : ℕ) (t next : Tally) (p : Option Distance) (d : A) → i < length l → p ≡ f (get_or l i d) → next ≡ join t i p → left (i + 1) next ≡ left i t
+  one : (i : ℕ) (closest : Option Passing) (d : A) → i < length l → left i closest ≡ tally i closest (f (get_or l i d) ∷ map f (drop (suc i) l))
+  one i closest d h = ap (λ l. tally i closest (map f l)) (drop-cons l i d h)
+
+  pub step : (i : ℕ) (closest : Option Passing) (d : A) (passes : Distance) (next : Passing) → i < length l → Some passes ≡ f (get_or l i d)
+      → next ≡ nearer closest i passes → left (i + 1) (Some next) ≡ left i closest
   unfolding tally
-  step i t next p d h e q = rw (add-one, drop-cons l i d h) (ap (λ t. tally (suc i) t (map f (drop (suc i) l))) (q ∙ ap (join t i) e))
+  step i closest d passes next h e q =
+      ap (λ i. left i (Some next)) (add-one i) ∙ ap (λ n. tally (suc i) (Some n) (map f (drop (suc i) l))) q
+      ∙ ap (λ p. tally i closest (p ∷ map f (drop (suc i) l))) e ∙ sym (one i closest d h)
 
-  pub done : (i : ℕ) (t : Tally) → i ≡ length l → left i t ≡ t
+  pub stops : (i : ℕ) (closest : Option Passing) (d : A) → i < length l → None ≡ f (get_or l i d) → None ≡ left i closest
   unfolding tally
-  done i t e = rw (e, drop-length l) refl
+  stops i closest d h e = ap (λ p. tally i closest (p ∷ map f (drop (suc i) l))) e ∙ sym (one i closest d h)
 
-  pub stopped : (i : ℕ) (t : Tally) → is_stopped t ≡ true → left i t ≡ Stopped
-  stopped i t h = ap (left i) (is_stopped_lem t h) ∙ stays_stopped i (map f (drop i l))
+  pub done : (i : ℕ) (closest : Option Passing) → i ≡ length l → Some (unwrap_or closest nobody) ≡ left i closest
+  unfolding tally
+  done i closest e = ap (λ l. tally i closest (map f l)) (sym (ap (λ i. drop i l) e ∙ drop-length l))
 
-  -- one that blocks, at i, stops a tally from any place j before
-  pub one_blocks : (i : ℕ) (d : A) (p : Option Distance) → i < length l → p ≡ f (get_or l i d) → p ≡ None → left 0 Free ≡ Stopped
-  unfolding join
-  one_blocks i d p h e b = from i 0 (none i) Free
+  -- one that blocks, at i, decides from any place j before
+  pub one_blocks : (i : ℕ) (d : A) (p : Option Distance) → i < length l → p ≡ f (get_or l i d) → p ≡ None → left 0 None ≡ None
+  unfolding tally
+  one_blocks i d p h e b = from i 0 (none i) None
     where
       none : (i : ℕ) → 0 + i ≡ i
       none i = omega arith
@@ -64,16 +66,14 @@ module _ {A : Type 0} (f : A → Option Distance) (l : List A) where
       below : (j r : ℕ) → j + suc r ≡ i → j < i
       below j r g = omega arith
 
-      next : (j r : ℕ) → j + suc r ≡ i → j + 1 + r ≡ i
+      next : (j r : ℕ) → j + suc r ≡ i → suc j + r ≡ i
       next j r g = omega arith
 
-      at : (t : Tally) → left i t ≡ Stopped
-      at t = sym (step i t Stopped p d h e (ap (join t i) (sym b))) ∙ stays_stopped (i + 1) (map f (drop (i + 1) l))
+      from : (r j : ℕ) → j + r ≡ i → (closest : Option Passing) → left j closest ≡ None
+      from zero j g closest = ap (λ j. left j closest) (here j g) ∙ sym (stops i closest d h (sym b ∙ e))
+      from (suc r) j g closest = one j closest d (lt_of_lt_of_le (below j r g) (le_of_lt h)) ∙ later j closest (f (get_or l j d))
+          (map f (drop (suc j) l)) (λ q. from r (suc j) (next j r g) (Some (nearer closest j q)))
 
-      from : (r j : ℕ) → j + r ≡ i → (t : Tally) → left j t ≡ Stopped
-      from zero j g t = ap (λ j. left j t) (here j g) ∙ at t
-      from (suc r) j g t = sym (step j t (join t j (f (get_or l j d))) (f (get_or l j d)) d (lt_of_lt_of_le (below j r g) (le_of_lt h)) refl refl) ∙ from r (j + 1) (next j r g) (join t j (f (get_or l j d)))
-
-  pub whole : cleared (left 0 Free) ≡ clearing (map f l)
+  pub whole : left 0 None ≡ clearing (map f l)
   unfolding clearing
   whole = refl

@@ -1,5 +1,6 @@
 -- Whether the traffic is clear on a course (avoidance.rs, `clears`; 01, 'Trial list': 'a trial clears if no contact, by `closest_point_of_approach` on the altered course, closes under desired minus 1e-9. A contact's passing distance is its CPA on that course if closing there, else its present range. The limiting contact is the first with the least passing distance').
-use Rattle.std.specs.Prelude.{Bool, true, false, cond, List, [], ◌∷◌, map, ℕ, suc, Float, None, Some}
+use Rattle.std.specs.Prelude.{cond, List, [], ◌∷◌, map, ℕ, suc, Float, None, Some}
+use Rattle.std.specs.Option.{unwrap_or}
 use Rattle.std.specs.Float.{binary64}
 use Rattle.std.specs.Float.Ieee.{lt, of_bits}
 use Rattle.laws.specs.Ops.{◌⊕◌, ◌⊖◌}
@@ -13,8 +14,6 @@ use Rattle.passages.specs.declared.Moving.{Moving}
 pub use Rattle.passages.specs.Passages.{passed, passed_by}
 unfoldable pub use Rattle.passages.specs.Passages.{passage, moving, passage_at}
 use Rattle.clearing.specs.declared.Passing.{Passing}
-use Rattle.clearing.specs.declared.Tally.{Tally}
-use Rattle.clearing.specs.declared.Tally.TheVariants.{Stopped, Free, Least}
 
 -- 1e-9: an exact answer lands on the distance that is wanted
 abbrev pub tolerance : Float
@@ -37,36 +36,29 @@ floor_of desired = desired.0 ⊖ tolerance
 abbrev pub least : Distance → ℕ → Passing
 least d place = record { distance = d; limiting = Some place }
 
-unfoldable pub join : Tally → ℕ → Option Distance → Tally
-join tally place None = Stopped
-join Stopped place (Some d) = Stopped
-join Free place (Some d) = Least (least d place)
-join (Least l) place (Some d) = cond (lt d.0 l.distance.0) (Least (least d place)) (Least l)
-
--- over a list, from a place on
-unfoldable pub tally : ℕ → Tally → List (Option Distance) → Tally
-tally place t [] = t
-tally place t (p ∷ ps) = tally (suc place) (join t place p) ps
+-- the one that passes closest so far, and one more at a place: of equals the earlier
+unfoldable pub nearer : Option Passing → ℕ → Distance → Passing
+nearer None place d = least d place
+nearer (Some l) place d = cond (lt d.0 l.distance.0) (least d place) l
 
 -- the largest f64 and nobody without contacts
-abbrev pub cleared : Tally → Option Passing
-cleared Stopped = None
-cleared Free = Some (record { distance = record { 0 = largest }; limiting = None })
-cleared (Least l) = Some l
+abbrev pub nobody : Passing
+nobody = record { distance = record { 0 = largest }; limiting = None }
+
+-- over a list, from a place on: one that blocks decides
+unfoldable pub tally : ℕ → Option Passing → List (Option Distance) → Option Passing
+tally place closest [] = Some (unwrap_or closest nobody)
+tally place closest (None ∷ ps) = None
+tally place closest (Some d ∷ ps) = tally (suc place) (Some (nearer closest place d)) ps
 
 unfoldable pub clearing : List (Option Distance) → Option Passing
-clearing ps = cleared (tally 0 Free ps)
+clearing ps = tally 0 None ps
 
 -- whether own craft, altered, clears every target
 unfoldable pub clears : Vessel → Float → List Target → Distance → Option Passing
 clears own alteration targets desired = clearing (map (passage (altered own alteration) (floor_of desired)) targets)
 
 -- ---- what is computed: by `passage_at` of each contact
-
-abbrev pub is_stopped : Tally → Bool
-is_stopped Stopped = true
-is_stopped Free = false
-is_stopped (Least l) = false
 
 unfoldable pub clears_at : Components → Float → List Moving → Option Passing
 clears_at own floor ms = clearing (map (passage_at own floor) ms)

@@ -25,55 +25,25 @@ pub struct Passing {
     pub limiting: Option<usize>,
 }
 
-// What the contacts so far come to: one blocks the course; there are none; the first that passes closest.
-#[derive(Clone, Copy)]
-pub enum Tally {
-    Stopped,
-    Free,
-    Least(Passing),
-}
+// What passes without contacts: nobody, at the largest distance.
+const NOBODY: Passing = Passing {
+    distance: Distance(1.7976931348623157e308),
+    limiting: None,
+};
 
-#[tactic(auto, unfolding(crate::specs::Clearing::join))]
-fn joined(tally: Tally, place: usize, p: Option<Distance>) -> Tally
-    ensures { result ≡ Spec.join tally place p }
+// Of the one that passes closest so far and the next, at its place: the earlier of equals.
+#[tactic(auto, unfolding(crate::specs::Clearing::nearer))]
+fn nearer(closest: Option<Passing>, place: usize, distance: Distance) -> Passing
+    ensures { result ≡ Spec.nearer closest place distance }
 {
-    match p {
-        None => Tally::Stopped,
-        Some(d) => {
-            let next = Passing {
-                distance: d,
-                limiting: Some(place),
-            };
-            match tally {
-                Tally::Stopped => Tally::Stopped,
-                Tally::Free => Tally::Least(next),
-                Tally::Least(least) => {
-                    if d.0 < least.distance.0 {
-                        return Tally::Least(next);
-                    }
-                    Tally::Least(least)
-                }
-            }
-        }
-    }
-}
-
-fn is_stopped(tally: Tally) -> bool
-    ensures { result ≡ Spec.is_stopped tally }
-{
-    matches!(tally, Tally::Stopped)
-}
-
-fn cleared(tally: Tally) -> Option<Passing>
-    ensures { result ≡ Spec.cleared tally }
-{
-    match tally {
-        Tally::Stopped => None,
-        Tally::Free => Some(Passing {
-            distance: Distance(1.7976931348623157e308),
-            limiting: None,
-        }),
-        Tally::Least(least) => Some(least),
+    let next = Passing {
+        distance,
+        limiting: Some(place),
+    };
+    match closest {
+        None => next,
+        Some(least) if distance.0 < least.distance.0 => next,
+        Some(least) => least,
     }
 }
 
@@ -104,14 +74,12 @@ fn suspect_blocks(own: Components, scene: &[Moving], floor: f64) -> bool
 fn tallied(own: Components, scene: &[Moving], floor: f64) -> Option<Passing>
     ensures { result ≡ Spec.clears_at own floor scene.now }
 {
-    let mut tally = Tally::Free;
+    let mut closest = None;
     for (place, m) in scene.iter().enumerate() {
-        tally = joined(tally, place, passage_of(own, *m, floor));
-        if is_stopped(tally) {
-            return None;
-        }
+        let distance = passage_of(own, *m, floor)?;
+        closest = Some(nearer(closest, place, distance));
     }
-    cleared(tally)
+    Some(closest.unwrap_or(NOBODY))
 }
 
 // With own craft at a velocity, whether no contact of the scene closes under `floor`.

@@ -48,7 +48,8 @@ impl PermittedSides {
     }
 }
 
-// The least alteration from 0 to 180 degrees, then the most from there to 180 (number 4).
+// The least alteration from 0 to 180 degrees, then the most from there to 180 (number 4). Two arguments, as `new` has them: a struct of both
+// would only be taken apart in `ManoeuvreConstraints`, which holds them from then on.
 #[tactic(auto, unfolding(arguments::specs::Check::verdict))]
 pub fn check_alterations(least: Angle, most: Angle) -> Result<(), Refusal>
     ensures { result ≡ Check.checked (Spec.alteration_checks least most) }

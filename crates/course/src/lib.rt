@@ -58,26 +58,12 @@ fn along(own: Vessel, target: Components, degrees: f64, choice: Choice) -> Choic
     at_speed(own.course.0, target, track, projection - root, first)
 }
 
-// x, or the nearer end where it is outside -1 to 1. Bounds both sides and keeps a NaN: no call of `math::larger`, which bounds one.
-#[tactic(auto, unfolding(crate::specs::Course::clamped))]
-fn clamped(x: f64) -> f64
-    ensures { result ≡ Spec.clamped x }
-{
-    if x < -1.0 {
-        return -1.0;
-    }
-    if x > 1.0 {
-        return 1.0;
-    }
-    x
-}
-
 // How far, in degrees, the relative track must pass aside of own craft.
-#[tactic(auto, unfolding(crate::specs::Course::grazing))]
+#[tactic(auto, unfolding(crate::specs::Course::grazing, crate::specs::Course::clamped))]
 fn grazing(wanted: f64, range: f64) -> f64
     ensures { result ≡ Spec.grazing wanted range }
 {
-    math::to_degrees(inverse::asin(clamped(wanted / range)))
+    math::to_degrees(inverse::asin((wanted / range).clamp(-1.0, 1.0)))
 }
 
 // The two relative tracks that touch the wanted distance, and the best course of each side for them.

@@ -1,4 +1,4 @@
 -- What the functions' proofs share.
-pub mod Fields
+pub mod Places
 pub mod Printed
 pub mod Corners

@@ -8,7 +8,7 @@ ghost use Rattle.std.specs.Float.Ieee.{lt};
 ghost use Rattle.std.specs.Float.Ieee.Nearest.{closest};
 ghost use Rattle.decimal.specs.Thousandths.{thousandths_of};
 
-use math::{LEADING, power_of_two};
+use math::{Parts, power_of_two};
 
 // The thousandths of 2^53, above which no f64 has a fraction.
 const MOST: u64 = 9007199254740992000;
@@ -29,19 +29,16 @@ fn nearest(n: u64, d: u64) -> u64
     q + q % 2
 }
 
-// A quantity above 0 and below 2^53. Its thousandths are m * 1000 / 2^(1075 - field), and none below the field 1012.
+// A quantity above 0 and below 2^53. Its thousandths are digits * 1000 / 2^(1074 - place), and none below the place 1011.
 fn fraction(x: f64) -> u64
     requires { (lt (fin false 0 (pos 0)) x ≡ true) × (lt x (fin false 1 (pos 53)) ≡ true) }
     ensures { result ≡ thousandths_of x }
 {
-    let pattern = f64::to_bits(x);
-    let field = pattern / LEADING;
-    let m = pattern % LEADING + LEADING;
-    if field < 1012 {
+    let Parts { digits, place } = Parts::of_pattern(f64::to_bits(x));
+    if place < 1011 {
         return 0;
     }
-    let d = power_of_two(1075 - field);
-    nearest(m * 1000, d)
+    nearest(digits * 1000, power_of_two(1074 - place))
 }
 
 // The thousandths nearest to a quantity, ties to even; those of 2^53 for anything from there on, and none for anything below 0.

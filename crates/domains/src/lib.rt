@@ -7,6 +7,7 @@ ghost use Rattle.domains.specs.Checked.{number_or_refused, hypot_answer, sin_ans
 use elementary::error::Refusal;
 
 // A value, or refusal 1 in place of a NaN.
+#[tactic(auto, using(crate::proofs::Answers::number_of, crate::proofs::Answers::refused_for))]
 fn number_or_refused(value: f64) -> Result<f64, Refusal>
     ensures { result ≡ number_or_refused value }
 {
@@ -17,6 +18,7 @@ fn number_or_refused(value: f64) -> Result<f64, Refusal>
 }
 
 // The hypotenuse over two finite sides of at most 2^500 in size.
+#[tactic(auto, using(crate::proofs::Answers::hypot_answer_lem))]
 pub fn hypot(x: f64, y: f64) -> Result<f64, Refusal>
     ensures { result ≡ hypot_answer x y }
 {
@@ -24,6 +26,7 @@ pub fn hypot(x: f64, y: f64) -> Result<f64, Refusal>
 }
 
 // The sine of an angle of at most 16 radians either sign.
+#[tactic(auto, using(crate::proofs::Answers::sin_answer_lem))]
 pub fn sin(x: f64) -> Result<f64, Refusal>
     ensures { result ≡ sin_answer x }
 {
@@ -31,6 +34,7 @@ pub fn sin(x: f64) -> Result<f64, Refusal>
 }
 
 // The cosine of an angle of at most 16 radians either sign.
+#[tactic(auto, using(crate::proofs::Answers::cos_answer_lem))]
 pub fn cos(x: f64) -> Result<f64, Refusal>
     ensures { result ≡ cos_answer x }
 {
@@ -38,6 +42,7 @@ pub fn cos(x: f64) -> Result<f64, Refusal>
 }
 
 // The arcsine of a number from 0 to 1.
+#[tactic(auto, using(crate::proofs::Answers::asin_answer_lem))]
 pub fn asin(x: f64) -> Result<f64, Refusal>
     ensures { result ≡ asin_answer x }
 {
@@ -45,6 +50,7 @@ pub fn asin(x: f64) -> Result<f64, Refusal>
 }
 
 // The angle of the point (x, y), both finite.
+#[tactic(auto, using(crate::proofs::Answers::atan2_answer_lem))]
 pub fn atan2(y: f64, x: f64) -> Result<f64, Refusal>
     ensures { result ≡ atan2_answer y x }
 {

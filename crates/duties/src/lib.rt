@@ -56,18 +56,13 @@ fn by_geometry(e: Encounter) -> Decision
 }
 
 // Rule 12, where both sail; `rest` is what the rules after it say.
-fn by_sails(
-    own: VesselCategory,
-    target: VesselCategory,
-    windward: Windward,
-    rest: Decision,
-) -> Decision
-    ensures { result ≡ Spec.by_says (Spec.rule12 own target windward) Rule.Rule12 rest }
+fn by_sails(f: Facts, rest: Decision) -> Decision
+    ensures { result ≡ Spec.by_says (Spec.rule12 f.own f.target f.windward) Rule.Rule12 rest }
 {
-    match (own, target) {
+    match (f.own, f.target) {
         (VesselCategory::Sailing { tack: on }, VesselCategory::Sailing { tack: other }) =>
             Decision {
-                responsibility: by_tacks(on, other, windward),
+                responsibility: by_tacks(on, other, f.windward),
                 rule: Rule::Rule12,
             },
         _ => rest,
@@ -75,16 +70,11 @@ fn by_sails(
 }
 
 // Rule 18, and between vessels of one rank Rules 12, 14, 15 and 17.
-fn by_rank(
-    e: Encounter,
-    own: VesselCategory,
-    target: VesselCategory,
-    windward: Windward,
-) -> Decision
-    ensures { result ≡ Spec.decided (Spec.by_rank e own target windward) }
+fn by_rank(e: Encounter, f: Facts) -> Decision
+    ensures { result ≡ Spec.decided (Spec.by_rank e f.own f.target f.windward) }
 {
-    let own_rank = own.precedence();
-    let target_rank = target.precedence();
+    let own_rank = f.own.precedence();
+    let target_rank = f.target.precedence();
     if own_rank < target_rank {
         return Decision {
             responsibility: Responsibility::GiveWay,
@@ -97,22 +87,17 @@ fn by_rank(
             rule: Rule::Rule18,
         };
     }
-    by_sails(own, target, windward, by_geometry(e))
+    by_sails(f, by_geometry(e))
 }
 
 // Rule 13 before the others.
-fn in_sight(
-    e: Encounter,
-    own: VesselCategory,
-    target: VesselCategory,
-    windward: Windward,
-) -> Decision
-    ensures { result ≡ Spec.by_says (Spec.rule13 e) Rule.Rule13 (Spec.decided (Spec.by_rank e own target windward)) }
+fn in_sight(e: Encounter, f: Facts) -> Decision
+    ensures { result ≡ Spec.by_says (Spec.rule13 e) Rule.Rule13 (Spec.decided (Spec.by_rank e f.own f.target f.windward)) }
 {
     let responsibility = match e {
         Encounter::Overtaking => Responsibility::GiveWay,
         Encounter::BeingOvertaken => Responsibility::StandOn,
-        Encounter::HeadOn | Encounter::Crossing { .. } => return by_rank(e, own, target, windward),
+        Encounter::HeadOn | Encounter::Crossing { .. } => return by_rank(e, f),
     };
     Decision {
         responsibility,
@@ -130,6 +115,6 @@ pub fn decided(e: Encounter, f: Facts) -> Decision
             responsibility: Responsibility::Both,
             rule: Rule::Rule19,
         },
-        Visibility::InSight => in_sight(e, f.own, f.target, f.windward),
+        Visibility::InSight => in_sight(e, f),
     }
 }

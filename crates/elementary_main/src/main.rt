@@ -5,7 +5,7 @@
 #![tactic(auto)]
 
 use elementary::error::Refusal;
-use replay::{float, word};
+use replay::{Replayed, float, word};
 use std::io;
 use std::num::f64_from_bits_with_nan;
 use time::{Duration, TimeError};
@@ -34,8 +34,8 @@ fn duration(secs: u64, nanos: u64) -> Duration {
     }
 }
 
-// The functions on floats whose answer is a float. Their numbers are the record's, and each has its own arguments, which a table would
-// not hold.
+// The functions on floats whose answer is a float, by the record's numbers. A `match`, and no table of functions: some take one float and
+// some two, and a function may not be handed out.
 fn number(which: u64, x: f64, y: f64) -> f64 {
     match which {
         0 => root::sqrt(x),
@@ -85,15 +85,22 @@ fn other(which: u64, a: u64, b: u64) -> u64 {
     }
 }
 
-fn answer(record: &[u8]) -> u64 {
-    let which = word(record, 0);
-    if which < 20 {
-        return pattern(number(which, float(record, 1), float(record, 2)));
+// Nothing is promised of what is answered but that it is answered: the Rust's own answers say what it is.
+struct Elementary;
+
+impl Replayed for Elementary {
+    ghost Answers = { λ _ _ _. Unit {0} };
+
+    fn answer(&self, record: &[u8]) -> u64 {
+        let which = word(record, 0);
+        if which < 20 {
+            return pattern(number(which, float(record, 1), float(record, 2)));
+        }
+        other(which, word(record, 1), word(record, 2))
     }
-    other(which, word(record, 1), word(record, 2))
 }
 
 fn main(rt: HostRuntime) -> io::Result<()> {
     let mut room = [0u8; 24];
-    replay::replay(&mut rt.stdin(), &mut rt.stdout(), &mut room, answer)
+    replay::replay(&mut rt.stdin(), &mut rt.stdout(), &mut room, &Elementary)
 }

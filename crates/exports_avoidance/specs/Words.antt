@@ -22,12 +22,18 @@ pub use Rattle.avoidance_codes.specs.Codes.{with_rate, at}
 unfoldable pub use Rattle.avoidance_codes.specs.Codes.{permitted_sides, constraints_of, entry_at, place_of, first_of, entries}
 
 -- ---- answers
+abbrev pub avoided : AvoidanceManoeuvre → List ℕ
+avoided m = turned (side_word (side_of m.alteration)) (pattern m.alteration.0) (pattern m.course.0) (pattern m.least_passing.0) m.turn_time (limiting_word m.limiting)
+
 abbrev pub avoid_words : Result AvoidanceManoeuvre Refusal → List ℕ
-avoid_words (Ok m) = turned (side_word (side_of m.alteration)) (pattern m.alteration.0) (pattern m.course.0) (pattern m.least_passing.0) m.turn_time (limiting_word m.limiting)
+avoid_words (Ok m) = avoided m
 avoid_words (Err why) = refused 9 why
 
+abbrev pub ruled : RuledManoeuvre → List ℕ
+ruled m = turned (side_word m.side) (pattern m.magnitude.0) (pattern m.course.0) (pattern m.passing.0) m.turn_time (limiting_word m.limiting)
+
 abbrev pub ruled_words : Result RuledManoeuvre Refusal → List ℕ
-ruled_words (Ok m) = turned (side_word m.side) (pattern m.magnitude.0) (pattern m.course.0) (pattern m.passing.0) m.turn_time (limiting_word m.limiting)
+ruled_words (Ok m) = ruled m
 ruled_words (Err why) = refused 9 why
 
 abbrev pub search_words : Option Chosen → List ℕ

@@ -4,8 +4,7 @@
 // the limiting contact's place and one, 0 for nobody. Floats are bit patterns.
 #![tactic(auto)]
 
-ghost use Rattle.std.specs.Prelude.{◌≡◌, get_or, length, min};
-ghost use Rattle.room.specs.Room.{max_contacts};
+ghost use Rattle.std.specs.Prelude.{◌≡◌, get_or, true};
 ghost use Rattle.rulings.specs.Ruled as Rulings;
 ghost use Rattle.exports_avoidance.specs.Words as Spec;
 
@@ -15,47 +14,49 @@ use choice::{Chosen, Search, Sides};
 use constraints::ManoeuvreConstraints;
 use elementary::error::Refusal;
 use manoeuvre::AvoidanceManoeuvre;
-use motion::units::{Direction, Distance};
+use motion::units::Distance;
 use rulings::RuledManoeuvre;
-use situation::party::{Party, Visibility};
-use traffic::Entry;
+use situation::party::{Circumstances, Visibility};
+use trials::TrialList;
 use words::{pattern, refused, word_or};
 
 // ---- answers as words
+fn avoided(m: AvoidanceManoeuvre) -> [u64; 9]
+    ensures { result ≡ Spec.avoided m }
+{
+    turned(
+        side_word(m.side()),
+        pattern(m.alteration().0),
+        pattern(m.course().0),
+        pattern(m.least_passing().0),
+        m.turn_time(),
+        limiting_word(m.limiting()),
+    )
+}
+
 fn avoid_words(answer: Result<AvoidanceManoeuvre, Refusal>) -> [u64; 9]
     ensures { result ≡ Spec.avoid_words answer }
 {
-    match answer {
-        Ok(m) => {
-            turned(
-                side_word(m.side()),
-                pattern(m.alteration().0),
-                pattern(m.course().0),
-                pattern(m.least_passing().0),
-                m.turn_time(),
-                limiting_word(m.limiting()),
-            )
-        }
-        Err(why) => refused(why),
-    }
+    answer.map_or_else(refused, avoided)
+}
+
+fn ruled(m: RuledManoeuvre) -> [u64; 9]
+    ensures { result ≡ Spec.ruled m }
+{
+    turned(
+        side_word(m.side),
+        pattern(m.magnitude.0),
+        pattern(m.course.0),
+        pattern(m.passing.0),
+        m.turn_time,
+        limiting_word(m.limiting),
+    )
 }
 
 fn ruled_words(answer: Result<RuledManoeuvre, Refusal>) -> [u64; 9]
     ensures { result ≡ Spec.ruled_words answer }
 {
-    match answer {
-        Ok(m) => {
-            turned(
-                side_word(m.side),
-                pattern(m.magnitude.0),
-                pattern(m.course.0),
-                pattern(m.passing.0),
-                m.turn_time,
-                limiting_word(m.limiting),
-            )
-        }
-        Err(why) => refused(why),
-    }
+    answer.map_or_else(refused, ruled)
 }
 
 // Whether a trial was found, its side and magnitude, the passing distance and the limiting contact.
@@ -80,21 +81,18 @@ fn search_words(choice: Option<Chosen>) -> [u64; 9]
     }
 }
 
-// The ruled search on so many contacts, of which the traffic has those that there is room for.
+// The ruled search on so many contacts, of which those are read that there is room for.
 fn ruled_on(
     count: usize,
-    own: Party,
-    t: &[Entry],
-    visibility: Visibility,
-    wind: Option<Direction>,
+    floats: &[f64],
+    around: Circumstances,
     desired: Distance,
     c: ManoeuvreConstraints,
 ) -> Result<RuledManoeuvre, Refusal>
-    requires { length t.now ≡ min count max_contacts }
-    ensures { result ≡ Rulings.ruled_answer own count t.now visibility wind desired c }
+    ensures { result ≡ Rulings.ruled_answer around.own count (Spec.entries true floats.now count) around.visibility around.wind_from desired c }
 {
     traffic::check_count(count)?;
-    ruled::ruled_search(own, t, visibility, wind, desired, c)
+    ruled::ruled_search(around, &traffic_of(true, count, floats), desired, c)
 }
 
 // ---- the exports
@@ -116,17 +114,16 @@ pub extern "C" fn avoidance_avoid(
 ) -> u64
     ensures { result ≡ get_or (Spec.avoid_with (Spec.constraints_of sides least most known rate) oc os bearing range tc ts desired) part 0 }
 {
-    let words = match constraints_of(sides, least, most, known, rate) {
-        Ok(c) => avoid_words(avoid::avoid(
+    let made = constraints_of(sides, least, most, known, rate).and_then(|c| {
+        avoid::avoid(
             words::vessel(oc, os),
             words::contact(bearing, range),
             words::vessel(tc, ts),
             Distance(desired),
             c,
-        )),
-        Err(why) => refused(why),
-    };
-    word_or(&words, part, 0)
+        )
+    });
+    word_or(&avoid_words(made), part, 0)
 }
 
 // `floats` has own course and speed, desired, least and most, then bearing, range, course and speed of each contact.
@@ -136,18 +133,17 @@ pub extern "C" fn avoidance_search(part: u32, sides: u32, count: usize, floats: 
 {
     let may = permitted_sides(sides);
     let scene = traffic::scene_of(&traffic_of(false, count, floats));
-    let search = Search {
-        own: words::vessel(codes::float_at(floats, 0), codes::float_at(floats, 1)),
-        scene: &scene,
-        floor: codes::float_at(floats, 2) - 1e-9,
-    };
+    let own = words::vessel(codes::float_at(floats, 0), codes::float_at(floats, 1));
+    let search = Search::new(own, &scene, Distance(codes::float_at(floats, 2)));
     let found = search.smallest(
         Sides {
             starboard: may.starboard(),
             port: may.port(),
         },
-        codes::float_at(floats, 3),
-        codes::float_at(floats, 4),
+        TrialList {
+            least: codes::float_at(floats, 3),
+            most: codes::float_at(floats, 4),
+        },
     );
     word_or(&search_words(found), part, 0)
 }
@@ -161,23 +157,20 @@ pub extern "C" fn avoidance_ruled(part: u32, codes: u32, count: usize, floats: &
     let known = codes / 64 % 2;
     let least = codes::float_at(floats, 5);
     let most = codes::float_at(floats, 6);
-    let words = match constraints_of(0, least, most, known, codes::float_at(floats, 7)) {
-        Ok(c) => ruled_words(ruled_on(
-            count,
-            codes::party(
-                codes % 8,
-                codes / 16 % 2,
-                codes::float_at(floats, 0),
-                codes::float_at(floats, 1),
-                codes::float_at(floats, 2),
-            ),
-            &traffic_of(true, count, floats),
-            Visibility::from(codes / 8 % 2),
-            codes::perhaps(codes / 32 % 2, codes::float_at(floats, 3)),
-            Distance(codes::float_at(floats, 4)),
-            c,
-        )),
-        Err(why) => refused(why),
+    let around = Circumstances {
+        own: codes::party(
+            codes % 8,
+            codes / 16 % 2,
+            codes::float_at(floats, 0),
+            codes::float_at(floats, 1),
+            codes::float_at(floats, 2),
+        ),
+        visibility: Visibility::from(codes / 8 % 2),
+        wind_from: codes::perhaps(codes / 32 % 2, codes::float_at(floats, 3)),
     };
-    word_or(&words, part, 0)
+    let desired = Distance(codes::float_at(floats, 4));
+    let made = constraints_of(0, least, most, known, codes::float_at(floats, 7)).and_then(
+        |c| ruled_on(count, floats, around, desired, c),
+    );
+    word_or(&ruled_words(made), part, 0)
 }

@@ -33,10 +33,7 @@ fn solved(s: TargetSolution) -> [u64; 6]
 fn plot_words(answer: Result<TargetSolution, Refusal>) -> [u64; 6]
     ensures { result ≡ Spec.plot_words answer }
 {
-    match answer {
-        Ok(s) => solved(s),
-        Err(why) => refused(why),
-    }
+    answer.map_or_else(refused, solved)
 }
 
 // ---- whether there is a starboard course, and it; and the same to port
@@ -68,10 +65,7 @@ fn altered(a: Avoidance) -> [u64; 6]
 fn course_words(answer: Result<Avoidance, Refusal>) -> [u64; 6]
     ensures { result ≡ Spec.course_words answer }
 {
-    match answer {
-        Ok(a) => altered(a),
-        Err(why) => refused(why),
-    }
+    answer.map_or_else(refused, altered)
 }
 
 // ---- the exports

@@ -25,20 +25,16 @@ fn entry_of(place: usize, a: CollisionAssessment) -> TargetAssessment
     }
 }
 
-fn with_answer(
-    p: CollisionPicture,
-    place: usize,
-    answer: Result<CollisionAssessment, Refusal>,
-) -> CollisionPicture
-    ensures { Picture.targets result ≡ Spec.with_answer (Picture.targets p) place answer }
+fn add(p: &mut CollisionPicture, place: usize, answer: Result<CollisionAssessment, Refusal>)
+    ensures { Picture.targets p.new ≡ Spec.with_answer (Picture.targets p.old) place answer }
 {
-    match answer {
-        Ok(a) => p.push(entry_of(place, a)),
-        Err(why) => p,
+    if let Ok(a) = answer {
+        p.push(entry_of(place, a));
     }
 }
 
 // Own course and speed, then bearing, range, course and speed of each contact.
+#[tactic(auto, unfolding(crate::specs::Words::assess_at))]
 fn assess_at(
     floats: &[f64],
     policy: CpaPolicy,
@@ -72,11 +68,12 @@ fn picture_of(
     let n = room::held(count);
     let mut p = CollisionPicture::of(entry_of(0, first));
     for i in 1..n {
-        p = with_answer(p, i, assess_at(floats, policy, i));
+        add(&mut p, i, assess_at(floats, policy, i));
     }
     p
 }
 
+// The risk of a rank. A table, and no `From`: that a code above 3 is the highest is the C interface's, and not the risks'.
 #[tactic(auto, unfolding(crate::specs::Words::risk_of))]
 fn risk_of(code: u32) -> CollisionRisk
     ensures { result ≡ Spec.risk_of code }
@@ -93,21 +90,14 @@ fn risk_of(code: u32) -> CollisionRisk
 fn range_word(t: Option<TargetAssessment>) -> u64
     ensures { result ≡ Spec.range_word t }
 {
-    match t {
-        None => 0,
-        Some(e) => {
-            let a = e.assessment;
-            let range = a.range();
-            words::pattern(range.0)
-        }
-    }
+    t.map_or(0, |e| words::pattern(e.assessment.range().0))
 }
 
 // Part 0 is the length, 1 the range of the most dangerous target, 2 to 6 that of the target numbered 0 to 4, 7 to 10 the length and 11 to 14
 // the range of the most dangerous of those of at least each risk.
 #[tactic(auto, unfolding(crate::specs::Words::word_of))]
-fn word_of(p: CollisionPicture, part: u32) -> u64
-    ensures { result ≡ Spec.word_of (Picture.targets p) part }
+fn word_of(p: &CollisionPicture, part: u32) -> u64
+    ensures { result ≡ Spec.word_of (Picture.targets p.now) part }
 {
     match part {
         0 => p.len() as u64,
@@ -127,13 +117,11 @@ fn word_by(
 ) -> u64
     ensures { result ≡ Spec.word_by floats.now policy count first part }
 {
-    match first {
-        Ok(a) => word_of(picture_of(floats, policy, count, a), part),
-        Err(why) => 0,
-    }
+    first.map_or(0, |a| word_of(&picture_of(floats, policy, count, a), part))
 }
 
 #[unsafe(no_mangle)]
+#[tactic(auto, unfolding(crate::specs::Words::picture_word))]
 pub extern "C" fn avoidance_picture(
     part: u32,
     count: usize,
@@ -144,8 +132,7 @@ pub extern "C" fn avoidance_picture(
     ensures { result ≡ Spec.picture_word part count limit secs floats.now }
 {
     let latest = Duration { secs, nanos: 0 };
-    match CpaPolicy::new(Distance(limit), latest) {
-        Ok(policy) => word_by(floats, policy, count, assess_at(floats, policy, 0), part),
-        Err(why) => 0,
-    }
+    CpaPolicy::new(Distance(limit), latest).map_or(0, |policy| {
+        word_by(floats, policy, count, assess_at(floats, policy, 0), part)
+    })
 }

@@ -8,7 +8,8 @@ ghost use Rattle.exports_time.specs.Time.{kind_of, secs_of, nanos_of};
 
 use time::{Duration, TimeError};
 
-// The kind of a time answer: 0 for a time, 1 for too long, 2 for none; and its seconds and nanoseconds.
+// The kind of a time answer: 0 for a time, 1 for too long, 2 for none; and its seconds and nanoseconds. The kind is the C interface's code
+// of a `Result`, which has no number of its own.
 fn kind_in(t: Result<Duration, TimeError>) -> u32
     ensures { result ≡ kind_of t }
 {

@@ -1,8 +1,8 @@
 // The fields of a line that say the approach and the risk, each appended with the space that follows it.
-#![tactic(auto)]
+#![tactic(auto, unfolding(text::specs::Text::bytes))]
 
 ghost use Rattle.std.specs.Prelude.{◌≡◌};
-ghost use Rattle.text.specs.Text.{shown, appended};
+ghost use Rattle.text.specs.Text.{appended};
 ghost use Rattle.text.specs.Line.{spaced};
 ghost use Rattle.fields.specs.Fields as Spec;
 
@@ -13,13 +13,13 @@ use risk::CollisionRisk;
 use text::Text;
 
 // How the range goes.
-pub fn approach(t: Text, a: Approach) -> Text
-    ensures { shown result ≡ appended (shown t) (spaced (Spec.approach_field a)) }
+pub fn approach(t: &mut Text, a: Approach)
+    ensures { t.new ≡ appended t.old (spaced (Spec.approach_field a)) }
 {
     match a {
-        Approach::Closing(cpa) => t.put(b"CLOSING "),
-        Approach::Opening { current_range } => t.put(b"OPENING "),
-        Approach::Stationary { range } => t.put(b"STATIONARY "),
+        Approach::Closing(_) => t.put(b"CLOSING "),
+        Approach::Opening { .. } => t.put(b"OPENING "),
+        Approach::Stationary { .. } => t.put(b"STATIONARY "),
     }
 }
 
@@ -35,19 +35,18 @@ pub fn distance(a: Approach) -> Distance
 }
 
 // The whole seconds to the closest point of approach, rounded down; a dash where there is none.
-pub fn seconds(t: Text, a: Approach) -> Text
-    ensures { shown result ≡ appended (shown t) (spaced (Spec.seconds_field a)) }
+pub fn seconds(t: &mut Text, a: Approach)
+    ensures { t.new ≡ appended t.old (spaced (Spec.seconds_field a)) }
 {
     match a {
         Approach::Closing(cpa) => number(t, cpa.time_to_go.secs),
-        Approach::Opening { current_range } => t.put(b"- "),
-        Approach::Stationary { range } => t.put(b"- "),
+        Approach::Opening { .. } | Approach::Stationary { .. } => t.put(b"- "),
     }
 }
 
 // The risk against own limits.
-pub fn risk(t: Text, k: CollisionRisk) -> Text
-    ensures { shown result ≡ appended (shown t) (spaced (Spec.risk_field k)) }
+pub fn risk(t: &mut Text, k: CollisionRisk)
+    ensures { t.new ≡ appended t.old (spaced (Spec.risk_field k)) }
 {
     match k {
         CollisionRisk::Opening => t.put(b"OPENING "),

@@ -1,13 +1,13 @@
 -- The arctangent of two f64s: what its code owes, and that it is what document 01 asks.
 use mathlib.Core.Path.{◌≡◌, refl, sym, ap, ◌∙◌, subst, subst₂}
 use mathlib.Core.Bool.{Bool, true, false, not, cond, ◌&&◌, true≢false}
-use Prim.Native.Nat.{ℕ, suc, ◌+◌, ◌*◌, ◌-◌, ◌^◌, ◌/◌, ◌%◌, ◌≤◌, ◌<◌}
+use Prim.Native.Nat.{ℕ, ◌+◌, ◌*◌, ◌^◌, ◌/◌, ◌≤◌, ◌<◌}
 use native.Mathlib.Nat.{le_of_lt, lt_of_le_of_lt, mul-le-mul_right, div-eq_of_lt, lt_of_lt_of_le}
 use native.Mathlib.Omega.{arith}
 use lib.IntN.{pos, negsuc}
 use lib.Dec.{T, eqb, ltb, ltb→lt, nltb→le, lt→ltb, eqb→eq, lit<, lit≤}
 use lib.Pow.{pow_pos, pow_mono}
-use lib.Ieee.{Float, nan, inf, fin, binary64, fits, round, mul, lt, eq, below, is_nan, to_bits, of_bits, size}
+use lib.Ieee.{Float, nan, inf, fin, binary64, fits, round, mul, lt, eq, below, is_nan, of_bits, size}
 use lib.Ieee.Bits.{is_true}
 use lib.Ieee.Exact.{HasValue}
 use lib.Ieee.Fits.{round-fits, mul-fits, and_l, and_r, eq→eqb}
@@ -16,7 +16,6 @@ use Rattle.laws.specs.Units.{Units, sign, units_of}
 use Rattle.laws.proofs.Bools.{holds, fails, refuted, and-false}
 use Rattle.laws.proofs.Compare.{lt-units, lt-units-signed, eq-units}
 use Rattle.laws.proofs.Exact.{finite_of_value, value-units, round_power, mul_power}
-use Rattle.laws.proofs.Pattern.{pattern_lt, normal_units, subnormal_units}
 use Rattle.laws.proofs.Units.{form, own_units, units_are, finite_of_units}
 use Rattle.math.specs.Sign.{abs}
 use Rattle.math.proofs.Sign.{units_of-abs}
@@ -222,40 +221,6 @@ unfolding is_nan
 not-nan nan f = absurd f
 not-nan (inf s) f = absurd f
 not-nan (fin s m e) f = tt
-
--- the parts of a pattern
-pub subnormal : (x : Float) → T (fits binary64 x) → to_bits binary64 x < 2 ^ 52 → (units_of x ≡ to_bits binary64 x * 1) × (to_bits binary64 x < 2 ^ 53) × (0 < 0 → 2 ^ 52 ≤ to_bits binary64 x)
-subnormal x t h = (units_are x false (to_bits binary64 x % 2 ^ 52 * 2 ^ 0) (subnormal_units x t (field (to_bits binary64 x) h)) ∙ ap (λ b. b * 1) (same (to_bits binary64 x) h), few (to_bits binary64 x) h, λ l. none (to_bits binary64 x) l)
-  where
-    field : (b : ℕ) → b < 2 ^ 52 → b / 2 ^ 52 ≡ 0
-    field b h = omega arith
-
-    same : (b : ℕ) → b < 2 ^ 52 → b % 2 ^ 52 ≡ b
-    same b h = omega arith
-
-    few : (b : ℕ) → b < 2 ^ 52 → b < 2 ^ 53
-    few b h = omega arith
-
-    none : (b : ℕ) → 0 < 0 → 2 ^ 52 ≤ b
-    none b l = omega arith
-
-pub normal : (x : Float) → T (fits binary64 x) → T (finite x) → sign x ≡ false → 2 ^ 52 ≤ to_bits binary64 x → let b = to_bits binary64 x in (units_of x ≡ (b % 2 ^ 52 + 2 ^ 52) * 2 ^ (b / 2 ^ 52 - 1)) × (b % 2 ^ 52 + 2 ^ 52 < 2 ^ 53) × (0 < b / 2 ^ 52 - 1 → 2 ^ 52 ≤ b % 2 ^ 52 + 2 ^ 52)
-normal x t f s h = (units_are x false ((2 ^ 52 + to_bits binary64 x % 2 ^ 52) * 2 ^ (to_bits binary64 x / 2 ^ 52 - 1)) (normal_units x (to_bits binary64 x / 2 ^ 52 - 1) t (field (to_bits binary64 x) h) (small (to_bits binary64 x) (pattern_lt x t f s))) ∙ ap (λ d. d * 2 ^ (to_bits binary64 x / 2 ^ 52 - 1)) (swap (to_bits binary64 x % 2 ^ 52)), few (to_bits binary64 x), λ l. least (to_bits binary64 x))
-  where
-    field : (b : ℕ) → 2 ^ 52 ≤ b → b / 2 ^ 52 ≡ suc (b / 2 ^ 52 - 1)
-    field b h = omega arith
-
-    small : (b : ℕ) → b < 2047 * 2 ^ 52 → b / 2 ^ 52 - 1 < 2046
-    small b h = omega arith
-
-    swap : (d : ℕ) → 2 ^ 52 + d ≡ d + 2 ^ 52
-    swap d = omega arith
-
-    few : (b : ℕ) → b % 2 ^ 52 + 2 ^ 52 < 2 ^ 53
-    few b = omega arith
-
-    least : (b : ℕ) → 2 ^ 52 ≤ b % 2 ^ 52 + 2 ^ 52
-    least b = omega arith
 
 -- past the last of 64 digits nothing is left
 pub all_cut : (n k : ℕ) → n < 2 ^ 64 → 64 ≤ k → 0 ≡ n / 2 ^ k

@@ -13,7 +13,7 @@ ghost use Rattle.grid.specs.Arctangent as Arctangent;
 ghost use Rattle.inverse.specs.Atan2 as Atan2;
 
 pub use arcsine::asin;
-use math::LEADING;
+use math::Parts;
 
 // The step of the arctangent, 2^-49.
 const STEP: f64 = 1.7763568394002505e-15;
@@ -25,13 +25,6 @@ const HALF_PI: u64 = 884279719003555;
 const NORMAL: f64 = 2.2250738585072014e-308;
 
 const RAISE: f64 = 18014398509481984.0;
-
-// A number of units of 2^-1074: `digits` times 2^`place`.
-#[derive(Clone, Copy)]
-struct Parts {
-    digits: u64,
-    place: u64,
-}
 
 // The size of a finite f64.
 #[derive(Clone, Copy)]
@@ -63,19 +56,9 @@ impl Magnitude {
     }
 
     fn taken_apart(self) -> Parts
-        ensures { (units_of self.value ≡ result.digits * 2 ^ result.place) × (result.digits < 2 ^ 53) × (0 < result.place → 2 ^ 52 ≤ result.digits) }
+        ensures { units_of self.value ≡ result.digits * 2 ^ result.place }
     {
-        let pattern = f64::to_bits(self.value);
-        if pattern < LEADING {
-            return Parts {
-                digits: pattern,
-                place: 0,
-            };
-        }
-        Parts {
-            digits: pattern % LEADING + LEADING,
-            place: pattern / LEADING - 1,
-        }
+        Parts::of_pattern(f64::to_bits(self.value))
     }
 }
 

@@ -5,7 +5,7 @@
 // made is said in docs/COMPARISON.md.
 #![tactic(auto)]
 
-use replay::{float, word};
+use replay::{Replayed, float, word};
 use std::io;
 
 // The low half of word i.
@@ -67,40 +67,56 @@ fn avoid(record: &[u8], part: u32) -> u64 {
     )
 }
 
-fn answer(record: &[u8]) -> u64 {
-    let part = code(record, 1);
-    let oc = float(record, 2);
-    let os = float(record, 3);
-    let bearing = float(record, 4);
-    let range = float(record, 5);
-    let tc = float(record, 6);
-    let ts = float(record, 7);
-    // The numbers are the record's, and each function has its own arguments, which a table would not hold.
-    match word(record, 0) {
-        0 => exports_motion::motion_cpa(part, oc, os, bearing, range, tc, ts),
-        1 => exports_motion::motion_passing(part, oc, os, bearing, range, tc, ts),
-        2 => exports_course::motion_plot(
-            part,
-            oc,
-            os,
-            bearing,
-            range,
-            tc,
-            ts,
-            word(record, 8),
-            code(record, 9),
-        ),
-        3 => exports_motion::motion_bow(part, oc, os, bearing, range, tc, ts),
-        4 => exports_course::motion_course(part, oc, os, bearing, range, tc, ts, float(record, 8)),
-        5 => exports_motion::motion_bearing(part, oc, os, bearing, range),
-        6 => ruling(record, part),
-        8 => assess(record, part),
-        9 => avoid(record, part),
-        _ => exports_ruling::colregs_precedence(code(record, 2)) as u64,
+// Nothing is promised of what is answered but that it is answered: the Rust's own answers say what it is.
+struct Module;
+
+impl Replayed for Module {
+    ghost Answers = { λ _ _ _. Unit {0} };
+
+    fn answer(&self, record: &[u8]) -> u64 {
+        let part = code(record, 1);
+        let oc = float(record, 2);
+        let os = float(record, 3);
+        let bearing = float(record, 4);
+        let range = float(record, 5);
+        let tc = float(record, 6);
+        let ts = float(record, 7);
+        // By the record's numbers. A `match`, and no table of functions: no two take the same arguments.
+        match word(record, 0) {
+            0 => exports_motion::motion_cpa(part, oc, os, bearing, range, tc, ts),
+            1 => exports_motion::motion_passing(part, oc, os, bearing, range, tc, ts),
+            2 => exports_course::motion_plot(
+                part,
+                oc,
+                os,
+                bearing,
+                range,
+                tc,
+                ts,
+                word(record, 8),
+                code(record, 9),
+            ),
+            3 => exports_motion::motion_bow(part, oc, os, bearing, range, tc, ts),
+            4 => exports_course::motion_course(
+                part,
+                oc,
+                os,
+                bearing,
+                range,
+                tc,
+                ts,
+                float(record, 8),
+            ),
+            5 => exports_motion::motion_bearing(part, oc, os, bearing, range),
+            6 => ruling(record, part),
+            8 => assess(record, part),
+            9 => avoid(record, part),
+            _ => exports_ruling::colregs_precedence(code(record, 2)) as u64,
+        }
     }
 }
 
 fn main(rt: HostRuntime) -> io::Result<()> {
     let mut room = [0u8; 128];
-    replay::replay(&mut rt.stdin(), &mut rt.stdout(), &mut room, answer)
+    replay::replay(&mut rt.stdin(), &mut rt.stdout(), &mut room, &Module)
 }

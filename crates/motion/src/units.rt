@@ -21,5 +21,5 @@ pub struct Direction(pub f64);
 pub struct RelativeBearing(pub f64);
 
 // Degrees per minute: a rate of turn, or the drift of a bearing.
-#[derive(Clone, Copy)]
+#[derive(Clone, Copy, Default)]
 pub struct RateOfTurn(pub f64);

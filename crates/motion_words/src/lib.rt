@@ -44,10 +44,7 @@ fn approach_words(a: Approach) -> [u64; 6]
 pub fn cpa_words(answer: Result<Approach, Refusal>) -> [u64; 6]
     ensures { result ≡ Spec.cpa_words answer }
 {
-    match answer {
-        Ok(a) => approach_words(a),
-        Err(why) => refused(why),
-    }
+    answer.map_or_else(refused, approach_words)
 }
 
 fn pass_words(p: Pass) -> [u64; 6]
@@ -64,10 +61,7 @@ fn pass_words(p: Pass) -> [u64; 6]
 pub fn passing_words(answer: Result<Pass, Refusal>) -> [u64; 6]
     ensures { result ≡ Spec.passing_words answer }
 {
-    match answer {
-        Ok(p) => pass_words(p),
-        Err(why) => refused(why),
-    }
+    answer.map_or_else(refused, pass_words)
 }
 
 // ---- one value
@@ -81,18 +75,12 @@ fn value(x: f64) -> [u64; 6]
 pub fn bearing_words(answer: Result<RelativeBearing, Refusal>) -> [u64; 6]
     ensures { result ≡ Spec.bearing_words answer }
 {
-    match answer {
-        Ok(b) => value(b.0),
-        Err(why) => refused(why),
-    }
+    answer.map(|b| b.0).map_or_else(refused, value)
 }
 
 // The word of a bow crossing's range.
 pub fn bow_words(answer: Result<Distance, Refusal>) -> [u64; 6]
     ensures { result ≡ Spec.bow_words answer }
 {
-    match answer {
-        Ok(d) => value(d.0),
-        Err(why) => refused(why),
-    }
+    answer.map(|d| d.0).map_or_else(refused, value)
 }

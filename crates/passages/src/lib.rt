@@ -9,8 +9,7 @@ ghost use Rattle.passages.specs.Passages as Spec;
 use motion::units::Distance;
 use motion::vessel;
 use motion::vessel::{Components, Contact, Vessel};
-use relative_motion::approach;
-use relative_motion::approach::Pass;
+use relative_motion::approach::{Pass, Relative};
 
 // A target as the search sees it: where it is and how it moves.
 #[derive(Clone, Copy)]
@@ -28,6 +27,7 @@ pub struct Moving {
 }
 
 // A target's parts, worked out.
+#[tactic(auto, unfolding(crate::specs::Passages::moving))]
 pub fn moving_of(target: Target) -> Moving
     ensures { result ≡ Spec.moving target }
 {
@@ -40,6 +40,7 @@ pub fn moving_of(target: Target) -> Moving
     }
 }
 
+#[tactic(auto, using(crate::proofs::Steps::blocked, crate::proofs::Steps::closes, crate::proofs::Steps::opens, crate::proofs::Steps::stays))]
 fn passed(pass: Pass, floor: f64) -> Option<Distance>
     ensures { result ≡ Spec.passed floor pass }
 {
@@ -56,6 +57,7 @@ fn passed(pass: Pass, floor: f64) -> Option<Distance>
 }
 
 // A contact that does not close passes at its range, and costs no root and no division.
+#[tactic(auto, using(crate::proofs::Steps::passes, crate::proofs::Steps::passes_at_range))]
 pub fn passage_of(own: Components, m: Moving, floor: f64) -> Option<Distance>
     ensures { result ≡ Spec.passage_at own floor m }
 {
@@ -64,5 +66,10 @@ pub fn passage_of(own: Components, m: Moving, floor: f64) -> Option<Distance>
     if rate >= 0.0 {
         return Some(m.range);
     }
-    passed(approach::passing_from(m.range, m.offset, relative), floor)
+    let seen = Relative {
+        range: m.range,
+        offset: m.offset,
+        velocity: relative,
+    };
+    passed(seen.passing(), floor)
 }

@@ -1,5 +1,5 @@
 -- The collision picture (assessment.rs, `CollisionPicture`; 01, assessment.rs: '`most_dangerous`: highest risk, then least time, then the last listed; none on an empty list').
-use Rattle.std.specs.Prelude.{cond, List, [], ◌∷◌, ◌++◌, ℕ, ltb, length, take, None}
+use Rattle.std.specs.Prelude.{cond, List, [], ◌∷◌, ◌++◌, ℕ, ltb, length, None}
 use Rattle.laws.specs.Fold.{fold}
 use Rattle.room.specs.Room.{max_contacts}
 use Rattle.risk.specs.declared.CollisionRisk.{CollisionRisk}
@@ -9,8 +9,8 @@ use Rattle.std.specs.declared.option.Option.{Option}
 pub use Rattle.targets.specs.Picture.{or_this, time_of, keep}
 unfoldable pub use Rattle.targets.specs.Picture.{outranks, is_at_least}
 
-unfoldable pub targets : CollisionPicture → List TargetAssessment
-targets p = take p.count p.list
+abbrev pub targets : CollisionPicture → List TargetAssessment
+targets p = p.targets.items
 
 unfoldable pub pushed : List TargetAssessment → TargetAssessment → List TargetAssessment
 pushed ts e = cond (ltb (length ts) max_contacts) (ts ++ (e ∷ [])) ts

@@ -1,98 +1,104 @@
-// The collision picture: targets assessed against own craft at one instant (assessment.rs, `CollisionPicture`), a fixed array and a count.
+// The collision picture: targets assessed against own craft at one instant (assessment.rs, `CollisionPicture`), a list within the room.
 #![tactic(auto)]
 
-ghost use Rattle.std.specs.Prelude.{◌≡◌, [], ◌∷◌, eqb, length};
+ghost use Rattle.std.specs.Prelude.{◌≡◌, ◌≤◌, [], ◌∷◌, eqb, length};
 ghost use Rattle.picture.specs.Picture as Spec;
+ghost use Rattle.room.specs.Room.{max_contacts};
 
+use arrayvec::ArrayVec;
 use risk::CollisionRisk;
 use room::MAX_CONTACTS;
-use targets::{TargetAssessment, is_at_least, keep, or_this};
+use targets::{TargetAssessment, is_at_least, keep};
 
-// The first `count` of the list, in the order in which they were listed.
-#[derive(Clone, Copy)]
+// In the order in which they were listed.
+#[derive(Drop)]
 pub struct CollisionPicture {
-    pub count: usize,
-    pub list: [TargetAssessment; MAX_CONTACTS],
+    targets: ArrayVec<TargetAssessment, MAX_CONTACTS>,
 }
 
 impl CollisionPicture {
+    // A picture of no target.
+    pub fn new() -> CollisionPicture
+        ensures { Spec.targets result ≡ [] }
+    {
+        CollisionPicture {
+            targets: ArrayVec::new(),
+        }
+    }
+
     // A picture of one target.
+    #[tactic(auto, unfolding(crate::specs::Picture::pushed))]
     pub fn of(first: TargetAssessment) -> CollisionPicture
         ensures { Spec.targets result ≡ first ∷ [] }
     {
-        CollisionPicture {
-            count: 1,
-            list: [first; MAX_CONTACTS],
-        }
+        let mut out = CollisionPicture::new();
+        out.push(first);
+        out
     }
 
-    // With one target more, where there is room.
-    pub fn push(self, e: TargetAssessment) -> CollisionPicture
-        ensures { Spec.targets result ≡ Spec.pushed (Spec.targets self) e }
+    // One target more, where there is room.
+    #[tactic(auto, unfolding(crate::specs::Picture::pushed))]
+    pub fn push(&mut self, e: TargetAssessment)
+        ensures { Spec.targets self.new ≡ Spec.pushed (Spec.targets self.old) e }
     {
-        let at = room::held(self.count);
-        let mut out = self;
-        if at < MAX_CONTACTS {
-            out.list[at] = e;
-            out.count = at + 1;
+        if !self.targets.is_full() {
+            self.targets.push(e);
         }
-        out
     }
 
     // How many targets are assessed.
-    pub fn len(self) -> usize
-        ensures { result ≡ length (Spec.targets self) }
+    pub fn len(&self) -> usize
+        ensures { result ≡ length (Spec.targets self.now) }
     {
-        room::held(self.count)
+        self.targets.len()
     }
 
     // Whether no target is assessed.
-    pub fn is_empty(self) -> bool
-        ensures { result ≡ eqb (length (Spec.targets self)) 0 }
+    pub fn is_empty(&self) -> bool
+        ensures { result ≡ eqb (length (Spec.targets self.now)) 0 }
     {
-        room::held(self.count) == 0
+        self.targets.is_empty()
+    }
+
+    // The targets that are assessed, in the order in which they were listed.
+    pub fn targets(&self) -> &[TargetAssessment]
+        ensures listed { result.now ≡ Spec.targets self.now }
+        ensures fits { length result.now ≤ max_contacts }
+    {
+        self.targets.as_slice()
     }
 
     // The first that is listed under a number.
-    pub fn target(self, target: u32) -> Option<TargetAssessment>
-        ensures { result ≡ Spec.found target (Spec.targets self) }
+    pub fn target(&self, target: u32) -> Option<TargetAssessment>
+        ensures { result ≡ Spec.found target (Spec.targets self.now) }
     {
-        let mut found = None;
-        for e in &self.list[..room::held(self.count)] {
-            found = or_this(found, target, *e);
-        }
-        found
+        self.targets().iter().find(|e| e.target == target).copied()
     }
 
     // The highest risk, then the least time to go, then the last listed; none in an empty picture.
-    pub fn most_dangerous(self) -> Option<TargetAssessment>
-        ensures { result ≡ Spec.most_dangerous (Spec.targets self) }
+    pub fn most_dangerous(&self) -> Option<TargetAssessment>
+        ensures { result ≡ Spec.most_dangerous (Spec.targets self.now) }
     {
-        let mut best = None;
-        for e in &self.list[..room::held(self.count)] {
-            best = keep(best, *e);
-        }
-        best
+        self.targets().iter().fold(None, |best, e| keep(best, *e))
     }
 
-    fn push_if(self, least: CollisionRisk, e: TargetAssessment) -> CollisionPicture
-        ensures { Spec.targets result ≡ Spec.pushed_if least (Spec.targets self) e }
+    fn push_if(&mut self, least: CollisionRisk, e: TargetAssessment)
+        ensures { Spec.targets self.new ≡ Spec.pushed_if least (Spec.targets self.old) e }
     {
         if is_at_least(e, least) {
-            return self.push(e);
+            self.push(e);
         }
-        self
     }
 
     // Those of at least a risk, in their order.
-    pub fn at_least(self, least: CollisionRisk) -> CollisionPicture
-        ensures { Spec.targets result ≡ Spec.at_least least (Spec.targets self) }
+    pub fn at_least(&self, least: CollisionRisk) -> CollisionPicture
+        ensures { Spec.targets result ≡ Spec.at_least least (Spec.targets self.now) }
     {
-        let mut out = self;
-        out.count = 0;
-        for e in &self.list[..room::held(self.count)] {
-            out = out.push_if(least, *e);
+        let listed = self.targets();
+        let mut kept = CollisionPicture::new();
+        for e in listed {
+            kept.push_if(least, *e);
         }
-        out
+        kept
     }
 }

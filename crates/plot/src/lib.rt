@@ -20,6 +20,7 @@ pub struct TargetSolution {
 }
 
 // The target's velocity relative to own craft, from plots so many hours apart.
+#[tactic(auto, unfolding(crate::specs::Plot::relative_motion))]
 fn relative_motion(first: Contact, second: Contact, interval: f64) -> Components
     ensures { result ≡ Spec.relative_motion first second interval }
 {
@@ -31,6 +32,7 @@ fn relative_motion(first: Contact, second: Contact, interval: f64) -> Components
 }
 
 // The vessel that moves so relative to own craft.
+#[tactic(auto, unfolding(crate::specs::Plot::target_of))]
 fn target_of(own: Vessel, relative: Components) -> Vessel
     ensures { result ≡ Spec.target_of own relative }
 {
@@ -41,6 +43,7 @@ fn target_of(own: Vessel, relative: Components) -> Vessel
     })
 }
 
+#[tactic(auto, unfolding(crate::specs::Plot::solution))]
 fn solution(own: Vessel, second: Contact, relative: Components) -> TargetSolution
     ensures { result ≡ Spec.solution own second relative }
 {
@@ -55,6 +58,7 @@ fn solution(own: Vessel, second: Contact, relative: Components) -> TargetSolutio
 }
 
 // With accepted arguments. Plots at one moment tell nothing.
+#[tactic(auto, using(crate::proofs::Plotted::no_interval, crate::proofs::Plotted::some_interval))]
 fn solved(
     own: Vessel,
     first: Contact,

@@ -1,5 +1,6 @@
 // The closest point of approach.
 ghost use Rattle.std.specs.Prelude.{◌≡◌};
+ghost use Rattle.motion.specs.Vessel as Motion;
 ghost use Rattle.relative_motion.specs.Approach as Spec;
 
 use elementary::error::Refusal;
@@ -36,6 +37,14 @@ pub enum Pass {
     Stationary(Distance),
 }
 
+// A contact as own craft sees it: its range, its offset, and its velocity relative to own craft.
+#[derive(Clone, Copy)]
+pub struct Relative {
+    pub range: Distance,
+    pub offset: Components,
+    pub velocity: Components,
+}
+
 // What both go by: the hours until a contact is closest, where it is then, and how far that is.
 #[derive(Clone, Copy)]
 enum Track {
@@ -53,68 +62,85 @@ enum Track {
 fn time_to_go(hours: f64) -> Duration
     ensures { result ≡ Spec.time_to_go hours }
 {
-    time::duration_from_hours(hours).unwrap_or(Duration {
-        secs: 18446744073709551615,
-        nanos: 999999999,
-    })
+    time::duration_from_hours(hours).unwrap_or(Duration::MAX)
 }
 
-// The track of a contact at an offset, with a velocity relative to own craft.
-#[tactic(auto, unfolding(crate::specs::Approach::track, crate::specs::Approach::relative_speed, crate::specs::Approach::time_of, crate::specs::Approach::closing_rate, crate::specs::Approach::closest))]
-fn track_of(offset: Components, relative: Components) -> Track
-    ensures { result ≡ Spec.track offset relative }
-{
-    let relative_speed = root::hypot(relative.north, relative.east);
-    if relative_speed < STATIONARY_KNOTS {
-        return Track::Stationary;
+impl Relative {
+    // A contact, seen from own craft.
+    pub fn of(own: Vessel, contact: Contact, target: Vessel) -> Relative
+        ensures range { result.range ≡ contact.range }
+        ensures offset { result.offset ≡ Motion.offset contact }
+        ensures velocity { result.velocity ≡ Motion.relative_velocity own target }
+    {
+        Relative {
+            range: contact.range,
+            offset: contact.offset(),
+            velocity: vessel::relative_velocity(own, target),
+        }
     }
-    let closing_rate = offset.north * relative.north + offset.east * relative.east;
-    let hours = -closing_rate / (relative_speed * relative_speed);
-    if hours <= 0.0 {
-        return Track::Opening;
-    }
-    let closest = Components {
-        north: offset.north + relative.north * hours,
-        east: offset.east + relative.east * hours,
-    };
-    Track::Closing {
-        hours,
-        closest,
-        distance: Distance(root::hypot(closest.north, closest.east)),
-    }
-}
 
-// The approach of a contact at a range and an offset, with a velocity relative to own craft.
-#[tactic(auto, unfolding(crate::specs::Approach::approach_from, crate::specs::Approach::track))]
-pub fn approach_from(range: Distance, offset: Components, relative: Components) -> Approach
-    ensures { result ≡ Spec.approach_from range offset relative }
-{
-    match track_of(offset, relative) {
+    // The contact's track.
+    #[tactic(auto, unfolding(crate::specs::Approach::track, crate::specs::Approach::relative_speed, crate::specs::Approach::time_of, crate::specs::Approach::closing_rate, crate::specs::Approach::closest))]
+    fn track(self) -> Track
+        ensures { result ≡ Spec.track self.offset self.velocity }
+    {
+        let Relative {
+            offset,
+            velocity,
+            ..
+        } = self;
+        let relative_speed = root::hypot(velocity.north, velocity.east);
+        if relative_speed < STATIONARY_KNOTS {
+            return Track::Stationary;
+        }
+        let closing_rate = offset.north * velocity.north + offset.east * velocity.east;
+        let hours = -closing_rate / (relative_speed * relative_speed);
+        if hours <= 0.0 {
+            return Track::Opening;
+        }
+        let closest = Components {
+            north: offset.north + velocity.north * hours,
+            east: offset.east + velocity.east * hours,
+        };
         Track::Closing {
             hours,
             closest,
-            distance,
-        } => Approach::Closing(Cpa {
-            distance,
-            time_to_go: time_to_go(hours),
-            bearing: vessel::direction_of(closest),
-        }),
-        Track::Opening => Approach::Opening {
-            current_range: range,
-        },
-        Track::Stationary => Approach::Stationary { range },
+            distance: Distance(root::hypot(closest.north, closest.east)),
+        }
     }
-}
 
-// The same without time and bearing.
-#[tactic(auto, unfolding(crate::specs::Approach::approach_from, crate::specs::Approach::track))]
-pub fn passing_from(range: Distance, offset: Components, relative: Components) -> Pass
-    ensures { result ≡ Spec.passing_in (Spec.approach_from range offset relative) }
-{
-    match track_of(offset, relative) {
-        Track::Closing { distance, .. } => Pass::Closing(distance),
-        Track::Opening => Pass::Opening(range),
-        Track::Stationary => Pass::Stationary(range),
+    // The contact's approach.
+    #[tactic(auto, unfolding(crate::specs::Approach::approach_from, crate::specs::Approach::track))]
+    pub fn approach(self) -> Approach
+        ensures { result ≡ Spec.approach_from self.range self.offset self.velocity }
+    {
+        match self.track() {
+            Track::Closing {
+                hours,
+                closest,
+                distance,
+            } => Approach::Closing(Cpa {
+                distance,
+                time_to_go: time_to_go(hours),
+                bearing: vessel::direction_of(closest),
+            }),
+            Track::Opening => Approach::Opening {
+                current_range: self.range,
+            },
+            Track::Stationary => Approach::Stationary { range: self.range },
+        }
+    }
+
+    // The same without time and bearing.
+    #[tactic(auto, unfolding(crate::specs::Approach::approach_from, crate::specs::Approach::track))]
+    pub fn passing(self) -> Pass
+        ensures { result ≡ Spec.passing_in (Spec.approach_from self.range self.offset self.velocity) }
+    {
+        match self.track() {
+            Track::Closing { distance, .. } => Pass::Closing(distance),
+            Track::Opening => Pass::Opening(self.range),
+            Track::Stationary => Pass::Stationary(self.range),
+        }
     }
 }
 
@@ -128,11 +154,7 @@ pub fn closest_point_of_approach(
     ensures { result ≡ Spec.cpa_answer own contact target }
 {
     arguments::check_encounter(own, contact, target)?;
-    Ok(approach_from(
-        contact.range,
-        contact.offset(),
-        vessel::relative_velocity(own, target),
-    ))
+    Ok(Relative::of(own, contact, target).approach())
 }
 
 // Its kind and distance alone, at the price of no arctangent and no time.
@@ -141,11 +163,7 @@ pub fn passing(own: Vessel, contact: Contact, target: Vessel) -> Result<Pass, Re
     ensures { result ≡ Spec.passing_answer own contact target }
 {
     arguments::check_encounter(own, contact, target)?;
-    Ok(passing_from(
-        contact.range,
-        contact.offset(),
-        vessel::relative_velocity(own, target),
-    ))
+    Ok(Relative::of(own, contact, target).passing())
 }
 
 // The bearing of a contact from own bow.

@@ -6,7 +6,6 @@ ghost use Rattle.std.specs.Prelude.{◌≡◌, ℕ, List, length, get_or, IfOk, 
 ghost use Rattle.std.specs.Float.{binary64};
 ghost use Rattle.std.specs.Float.Ieee.{of_bits};
 ghost use Rattle.std.specs.Io.KnownBytes.{Appends};
-ghost use Rattle.std.specs.Fn.{FnReturnsAt};
 ghost use Rattle.replay.specs.Record as Spec;
 
 use std::io::{self, ErrorKind, Read, Write};
@@ -14,6 +13,17 @@ use std::num::f64_from_bits_with_nan;
 
 // How many records are answered at most: a loop is proved to end, which an input need not.
 const MOST: usize = 1000000;
+
+// What a program replays: the answer to a record.
+pub trait Replayed {
+    ghost use Rattle.std.specs.Prelude.{ℕ, List};
+
+    // Whether a number is an answer to a record.
+    ghost Answers: { Self → List ℕ → ℕ → Type 0 };
+
+    fn answer(&self, bytes: &[u8]) -> u64
+        ensures { Answers self.now bytes.now result };
+}
 
 // Word i of a record, 0 where there is none.
 pub fn word(bytes: &[u8], i: usize) -> u64
@@ -37,15 +47,14 @@ fn put<W: Write>(output: &mut W, v: u64) -> io::Result<()>
 }
 
 // Answers one record, which has as many bytes as there is room for, and whether there was one: what is less than a record ends the input.
-fn next<R: Read, W: Write, F: Fn(&[u8]) -> u64>(
+fn next<R: Read, W: Write, F: Replayed>(
     input: &mut R,
     output: &mut W,
     room: &mut [u8],
-    answer: &F,
+    f: &F,
 ) -> io::Result<bool>
-    requires { F.IsAlwaysCallable answer.now }
     ensures kept { length room.new ≡ length room.old }
-    ensures answered { IfOk result (λ more. more ≡ true → Spec.Answered (FnReturnsAt F.Fn answer.now) (length room.old)
+    ensures answered { IfOk result (λ more. more ≡ true → Spec.Answered (F.Answers f.now) (length room.old)
         (R.remaining input.old, W.contents output.old) room.new (R.remaining input.new, W.contents output.new)) }
     ensures ended { IfOk result (λ more. more ≡ false → output.new ≡ output.old) }
 {
@@ -54,23 +63,22 @@ fn next<R: Read, W: Write, F: Fn(&[u8]) -> u64>(
         Err(error) if error.kind() == ErrorKind::UnexpectedEof => return Ok(false),
         Err(error) => return Err(error),
     }
-    put(output, answer(room))?;
+    put(output, f.answer(room))?;
     Ok(true)
 }
 
 // Answers the records of the input one after the other, with a line for each: sixteen hexadecimal digits.
-pub fn replay<R: Read, W: Write, F: Fn(&[u8]) -> u64>(
+pub fn replay<R: Read, W: Write, F: Replayed>(
     input: &mut R,
     output: &mut W,
     room: &mut [u8],
-    answer: F,
+    f: &F,
 ) -> io::Result<()>
-    requires { F.IsAlwaysCallable answer }
-    ensures { OnOk result (Spec.AreAnswered (FnReturnsAt F.Fn answer) (length room.old)
+    ensures { OnOk result (Spec.AreAnswered (F.Answers f.now) (length room.old)
         (R.remaining input.old, W.contents output.old) (W.contents output.new)) }
 {
     for _ in 0..MOST {
-        if !next(input, output, room, &answer)? {
+        if !next(input, output, room, f)? {
             return Ok(());
         }
     }

@@ -1,13 +1,13 @@
 -- Nothing of a report is cut: the lines on the contacts that there is room for, and the answer, fit in a text.
 use Rattle.std.specs.Prelude.{Err, Ok}
 use mathlib.Core.Path.{◌≡◌, ap, ◌∙◌}
-use mathlib.Core.List.{List, [], ◌∷◌, ◌++◌, flat_map}
+use mathlib.Core.List.{List, [], ◌∷◌, flat_map}
 use Prim.Native.Nat.{ℕ, ◌*◌, ◌≤◌}
 use native.Mathlib.Omega.{arith}
 use lib.Dec.{lit≤}
 use lib.ListN.{length, length-append}
-use Rattle.text.specs.Text.{appended}
-use Rattle.text.proofs.Appending.{appended_twice, whole}
+use Rattle.text.specs.Text.{room, appended}
+use Rattle.text.proofs.Appending.{whole}
 use Rattle.elementary.specs.declared.error.Refusal.{Refusal}
 use Rattle.colregs.specs.declared.answer.Ruling.{Ruling}
 use Rattle.std.specs.declared.option.Option.{Option}
@@ -25,11 +25,13 @@ use Rattle.colregs.specs.Colregs.{ruling_answer}
 use Rattle.room.specs.Room.{max_contacts}
 use Rattle.rulings.specs.Ruled.{situation_of}
 use Rattle.sheet_record.specs.declared.Row.{Row}
-use Rattle.sheet_values.specs.Values.{entry_of}
+use Rattle.sheet_values.specs.Values.{entry_of, own_of, visibility_of, wind_from}
 use Rattle.lines.specs.Lines.{refused_line}
 use Rattle.lines_laws.proofs.Short.{contact_short, alter_short, refused_short}
 use Rattle.contact_lines.specs.Contacts.{line_by, line_on, contact_lines}
-use Rattle.report.specs.Report.{id_at, answer_line}
+use Rattle.constraints.specs.declared.ManoeuvreConstraints.{ManoeuvreConstraints}
+use Rattle.sheet_record.specs.declared.Header.{Header}
+use Rattle.report.specs.Report.{id_at, answer_line, answer_on, lines_by, lines_on, policy_on, constraints_on}
 
 by_short : (id : ℕ) (p : CpaPolicy) (a : Result Approach Refusal) (r : Result Ruling Refusal) → length (line_by id p a r) ≤ 129
 by_short id p (Ok a) (Ok r) = contact_short id a (risk_of p (nearest a)) r
@@ -52,11 +54,21 @@ module _ (own : Party) (visibility : Visibility) (wind : Option Direction) (poli
   contacts_short [] = lit≤ tt
   contacts_short (r ∷ rs) = omega (arith, length-append (line_on own visibility wind policy r) (contact_lines own visibility wind policy rs), line_short r, contacts_short rs)
 
-  pub both : (rs : List Row) (a : Result RuledManoeuvre Refusal) (t u : List ℕ) → length rs ≤ max_contacts → t ≡ appended [] (contact_lines own visibility wind policy rs) → u ≡ appended t (answer_line rs a) → u ≡ contact_lines own visibility wind policy rs ++ answer_line rs a
-  both rs a t u h et eu =
-      let lines = contact_lines own visibility wind policy rs in
-      eu ∙ ap (λ t. appended t (answer_line rs a)) et ∙ appended_twice [] lines (answer_line rs a)
-      ∙ whole [] (lines ++ answer_line rs a) (omega (arith, length-append lines (answer_line rs a), contacts_short rs, answer_short rs a, h))
+pub lines_fit : (h : Header) (rs : List Row) → length rs ≤ max_contacts → length (lines_on h rs) ≤ room
+unfolding lines_on
+lines_fit h rs few = by (policy_on h) (constraints_on h)
+  where
+    by : (p : Result CpaPolicy Refusal) (c : Result ManoeuvreConstraints Refusal) → length (lines_by h rs p c) ≤ room
+    by (Ok p) (Ok c) =
+        let lines = contact_lines (own_of h) (visibility_of h.visibility) (wind_from h) p rs in
+        let answer = answer_on h rs c in
+        omega (arith, length-append lines (answer_line rs answer), contacts_short (own_of h) (visibility_of h.visibility) (wind_from h) p rs, answer_short rs answer, few)
+    by (Ok p) (Err why) = omega (arith, refused_short why)
+    by (Err why) c = omega (arith, refused_short why)
 
-pub alone : (why : Refusal) (t u : List ℕ) → t ≡ [] → u ≡ appended t (refused_line why) → u ≡ refused_line why
-alone why t u et eu = eu ∙ ap (λ t. appended t (refused_line why)) et ∙ whole [] (refused_line why) (omega (arith, refused_short why))
+pub refusal_fits : (why : Refusal) → length (refused_line why) ≤ room
+refusal_fits why = omega (arith, refused_short why)
+
+-- what fits is the whole of a text that had nothing before
+pub alone : (t u lines : List ℕ) → length lines ≤ room → t ≡ [] → u ≡ appended t lines → u ≡ lines
+alone t u lines fits et eu = eu ∙ ap (λ t. appended t lines) et ∙ whole [] lines (omega (arith, fits))

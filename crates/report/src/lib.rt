@@ -1,24 +1,24 @@
 // From a sheet's bytes to the lines that the encounter program prints (document 01, 'Encounter sheet and its program').
 #![tactic(auto)]
 
-ghost use Rattle.std.specs.Prelude.{◌≡◌, ◌≤◌, length};
-ghost use Rattle.text.specs.Text.{shown, appended};
-ghost use Rattle.room.specs.Room.{max_contacts};
+ghost use Rattle.std.specs.Prelude.{◌≡◌};
+ghost use Rattle.text.specs.Text.{appended};
 ghost use Rattle.report.specs.Report as Spec;
 
+use arrayvec::ArrayVec;
 use constraints::ManoeuvreConstraints;
 use elementary::error::Refusal;
 use motion::units::Distance;
+use room::MAX_CONTACTS;
 use rulings::RuledManoeuvre;
 use sheet_limits::{constraints_on, id_at, policy_on};
 use sheet_record::{Header, Row};
 use sheet_values::scaled;
-use situation::party::Visibility;
 use text::Text;
 
 // The line on the ruled search's answer.
-fn put_answer(t: Text, rows: &[Row], answer: Result<RuledManoeuvre, Refusal>) -> Text
-    ensures { shown result ≡ appended (shown t) (Spec.answer_line rows.now answer) }
+fn put_answer(t: &mut Text, rows: &[Row], answer: Result<RuledManoeuvre, Refusal>)
+    ensures { t.new ≡ appended t.old (Spec.answer_line rows.now answer) }
 {
     match answer {
         Ok(m) => lines::alter_line(t, m, id_at(rows, m.limiting)),
@@ -27,49 +27,45 @@ fn put_answer(t: Text, rows: &[Row], answer: Result<RuledManoeuvre, Refusal>) ->
 }
 
 // The ruled search on a sheet.
-fn answer_on(h: Header, rows: &[Row], c: ManoeuvreConstraints) -> Result<RuledManoeuvre, Refusal>
-    requires { length rows.now ≤ max_contacts }
-    ensures { result ≡ Spec.answer_on h rows.now c }
+fn answer_on(
+    h: Header,
+    rows: &ArrayVec<Row, MAX_CONTACTS>,
+    c: ManoeuvreConstraints,
+) -> Result<RuledManoeuvre, Refusal>
+    ensures { result ≡ Spec.answer_on h rows.now.items c }
 {
-    let own = sheet_values::own_of(h);
+    let around = sheet_values::circumstances_of(h);
     let t = sheet_values::traffic_of(rows);
-    let visibility = Visibility::from(h.visibility);
-    let wind = sheet_values::wind_from(h);
     let desired = Distance(scaled(h.desired));
-    ruled::ruled_search(own, &t, visibility, wind, desired, c)
+    ruled::ruled_search(around, &t, desired, c)
 }
 
 // The lines on a sheet that is accepted.
-fn lines_on(h: Header, rows: &[Row]) -> Text
-    requires { length rows.now ≤ max_contacts }
-    ensures { shown result ≡ Spec.lines_on h rows.now }
+#[tactic(auto, using(text::proofs::Appending::appended_twice), unfolding(crate::specs::Report::lines_on, sheet_values::specs::Values::circumstances_of))]
+fn lines_on(t: &mut Text, h: Header, rows: &ArrayVec<Row, MAX_CONTACTS>)
+    ensures { t.new ≡ appended t.old (Spec.lines_on h rows.now.items) }
 {
-    match policy_on(h) {
-        Ok(p) => match constraints_on(h) {
-            Ok(c) => {
-                let own = sheet_values::own_of(h);
-                let visibility = Visibility::from(h.visibility);
-                let wind = sheet_values::wind_from(h);
-                let t = contact_lines::put_rows(Text::blank(), own, visibility, wind, p, rows);
-                put_answer(t, rows, answer_on(h, rows, c))
-            }
-            Err(why) => lines::refused_line(Text::blank(), why),
-        },
-        Err(why) => lines::refused_line(Text::blank(), why),
+    match (policy_on(h), constraints_on(h)) {
+        (Ok(p), Ok(c)) => {
+            contact_lines::put_rows(t, sheet_values::circumstances_of(h), p, rows);
+            put_answer(t, rows, answer_on(h, rows, c));
+        }
+        (Ok(_), Err(why)) | (Err(why), _) => lines::refused_line(t, why),
     }
 }
 
 // What the encounter program prints for a sheet.
 pub fn report(bytes: &[u8]) -> Text
-    ensures { shown result ≡ Spec.report bytes.now }
+    ensures { result ≡ Spec.report bytes.now }
 {
-    let verdict = sheet::check_sheet(bytes);
-    match verdict {
+    let mut t = Text::blank();
+    match sheet::check_sheet(bytes) {
         Ok(()) => {
             let h = sheet_record::header_of(bytes);
             let rows = sheet_record::rows_of(bytes);
-            lines_on(h, &rows)
+            lines_on(&mut t, h, &rows);
         }
-        Err(why) => lines::refused_line(Text::blank(), why),
+        Err(why) => lines::refused_line(&mut t, why),
     }
+    t
 }

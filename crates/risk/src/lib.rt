@@ -7,13 +7,13 @@ ghost use Rattle.risk.specs.Risk as Spec;
 
 use elementary::error::Refusal;
 use motion::units::{Distance, RateOfTurn};
-use motion::vessel::Components;
 use policy::CpaPolicy;
-use relative_motion::approach::{Approach, Cpa};
+use relative_motion::approach::{Approach, Cpa, Relative};
 
 // In the order of concern: the range opens or stays; the closest approach is outside the limit; inside it but late; inside both.
-#[derive(Clone, Copy, PartialEq, Eq, PartialOrd, Ord)]
+#[derive(Clone, Copy, Default, PartialEq, Eq, PartialOrd, Ord)]
 pub enum CollisionRisk {
+    #[default]
     Opening,
     Passing,
     Developing,
@@ -30,10 +30,16 @@ impl CollisionRisk {
 }
 
 // The bearing rate in radians per hour, positive drawing right; 0 where the range's square is 0.
-pub fn drift_per_hour(range: f64, offset: Components, relative: Components) -> f64
-    ensures { result ≡ Spec.drift_per_hour range offset relative }
+#[tactic(auto, unfolding(crate::specs::Risk::drift_per_hour))]
+pub fn drift_per_hour(seen: Relative) -> f64
+    ensures { result ≡ Spec.drift_per_hour seen.range.0 seen.offset seen.velocity }
 {
-    let squared = range * range;
+    let Relative {
+        range,
+        offset,
+        velocity: relative,
+    } = seen;
+    let squared = range.0 * range.0;
     if squared > 0.0 {
         return (offset.north * relative.east - offset.east * relative.north) / squared;
     }
@@ -41,10 +47,11 @@ pub fn drift_per_hour(range: f64, offset: Components, relative: Components) -> f
 }
 
 // The same in degrees per minute.
-pub fn drift_of(range: f64, offset: Components, relative: Components) -> RateOfTurn
-    ensures { result ≡ Spec.drift_of range offset relative }
+#[tactic(auto, unfolding(crate::specs::Risk::drift_of))]
+pub fn drift_of(seen: Relative) -> RateOfTurn
+    ensures { result ≡ Spec.drift_of seen.range.0 seen.offset seen.velocity }
 {
-    let per_hour = drift_per_hour(range, offset, relative);
+    let per_hour = drift_per_hour(seen);
     if math::is_finite(per_hour) {
         return RateOfTurn(math::to_degrees(per_hour) / 60.0);
     }
@@ -70,6 +77,7 @@ pub fn ahead_of(answer: Result<Distance, Refusal>) -> Option<Distance>
 }
 
 // The risk of a closest approach: outside the limit, inside it but later than the time limit, or inside both.
+#[tactic(auto, using(crate::proofs::Owed::develops, crate::proofs::Owed::endangers, crate::proofs::Owed::passes))]
 pub fn risk_at(policy: CpaPolicy, cpa: Cpa) -> CollisionRisk
     ensures { result ≡ Spec.risk_at policy cpa }
 {

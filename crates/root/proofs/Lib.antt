@@ -3,7 +3,6 @@ pub mod HypotBound
 pub mod HypotCode
 pub mod HypotSize
 pub mod NearestSqrt
-pub mod OneDigitMore
 pub mod SqrtCode
 pub mod SqrtSize
 pub mod WholeRoots

@@ -1,40 +1,32 @@
 -- What the code of the square root owes, function by function.
-use mathlib.Core.Path.{◌≡◌, refl, sym, ap, ◌∙◌, subst}
+use mathlib.Core.Path.{◌≡◌, refl, sym, ap, ◌∙◌, subst, subst₂}
 use mathlib.Core.Bool.{Bool, true, false, ◌&&◌, ◌||◌, beq, true≢false}
 use mathlib.Core.Logic.{◌⊎◌, inl, inr}
 use Prim.Native.Nat.{ℕ, zero, suc, ◌+◌, ◌*◌, ◌-◌, ◌^◌, ◌/◌, ◌%◌, ◌≤◌, ◌<◌}
-use native.Mathlib.Nat.{pow-succ', lt_of_lt_of_le, mod-eq_of_lt, mul-le-mul, mul-le-mul_left, mul-le-mul_right, mul_assoc, mul-one, add_comm, zero-mul, lt_irrefl, mul-pos, zero-lt-suc}
+use native.Mathlib.Nat.{pow-succ', lt_of_lt_of_le, mod-eq_of_lt, mul-le-mul, mul-le-mul_left, mul-le-mul_right, mul_assoc, mul-one, zero-mul, lt_irrefl, mul-pos, zero-lt-suc}
 use native.Mathlib.Omega.{arith}
 use lib.IntN.{pos}
-use lib.Dec.{T, eqb, lt→ltb, eqb→eq, lit≤}
+use lib.Dec.{T, eqb, lt→ltb, eqb→eq, lit<, lit≤}
 use lib.Pow.{pow-add, pow_mono, pow_pos}
 use lib.Ieee.{Float, nan, inf, fin, binary64, fits, up, down, lt, eq, div, to_bits, of_bits}
-use lib.Ieee.Bits.{of_bits-fits}
+use lib.Ieee.Bits.{is_true, of_bits-fits}
 use lib.Ieee.Fits.{down_pos, up_pos, and_l, and_i, eq→eqb}
 use lib.Ieee.Scale.{finite}
 use Rattle.std.specs.Int.Count.{count_leading_zeros}
 use Rattle.std.proofs.lemmas.Nat.{leading_top}
-use Rattle.laws.specs.Units.{Units, sign}
+use Rattle.laws.specs.Units.{Units, sign, units_of}
 use Rattle.laws.proofs.Bools.{holds, fails}
 use Rattle.laws.proofs.Numbers.{le_by, lt_by}
-use Rattle.laws.proofs.Pattern.{pattern_of_digits, pattern_lt, normal_units, subnormal_units, units_above_zero}
-use Rattle.laws.proofs.Units.{finite_of_units}
+use Rattle.laws.proofs.Pattern.{pattern_of_digits, units_above_zero}
+use Rattle.laws.proofs.Units.{finite_of_units, form, own_units}
+use Rattle.math.specs.declared.Parts.{Parts as Taken}
+use Rattle.math.proofs.Apart.{place_below}
 use Rattle.root.specs.Root.{IsRoot, NearestRoot, isqrt}
 use Rattle.root.specs.Sqrt.{sqrt, Nearest, root_digits, root_pattern}
 use Rattle.root.proofs.NearestSqrt.{Parts, parts_ge, parts-le, nearest_of_parts, nearest_unique, sqrt_is}
 use Rattle.root.proofs.WholeRoots.{isqrt_is, nearest_root, nearest_root_unique}
 
--- ---- small_root: after i bits the step is 2 ^ (27 - i)
-pub step_halved : (i step : ℕ) → i < 27 → step ≡ 2 ^ (27 - i) → (step / 2 ≡ 2 ^ (27 - (i + 1))) × (step / 2 + step / 2 ≡ step)
-step_halved i step h e = go (27 - (i + 1)) (e ∙ ap (λ t. 2 ^ t) (next i h))
-  where
-    next : (i : ℕ) → i < 27 → 27 - i ≡ suc (27 - (i + 1))
-    next i h = omega arith
-
-    go : (g : ℕ) → step ≡ 2 ^ suc g → (step / 2 ≡ 2 ^ g) × (step / 2 + step / 2 ≡ step)
-    go g e = (omega (arith, pow-succ' 2 g), omega (arith, pow-succ' 2 g))
-
--- ---- root_by_digits
+-- ---- exact_root
 fourfold : (d : ℕ) → 4 * (d * 2 ^ 52) ≡ d * 2 ^ 54
 fourfold d = omega arith
 
@@ -47,7 +39,7 @@ long_root_few d r h x = le_by (λ k. never (mul-le-mul k k) x.at_most)
 pub nearest_of_long : (d r : ℕ) → 0 < d → IsRoot (d * 2 ^ 54) r → NearestRoot (d * 2 ^ 52) ((r + 1) / 2)
 nearest_of_long d r h x = nearest_root (d * 2 ^ 52) r (omega arith) (subst (λ n. IsRoot n r) (sym (fourfold d)) x)
 
--- ---- subnormal: t of j + 1 digits is moved up by 52 - j places
+-- ---- Scaled::of: t of j + 1 digits, fewer than 53, is moved up by 52 - j places
 pub record Moved (t p : ℕ) : Type 0 where
   pub places : p ≤ 52
   pub leading : 2 ^ 52 ≤ t * 2 ^ p
@@ -74,39 +66,23 @@ moved_up t h k = go (leading_top 64 t h (lt_of_lt_of_le k (lit≤ tt)))
             below : (a b : ℕ) → t + 1 ≤ 2 * a → 0 < b → a * b ≡ 2 ^ 52 → t * b < 2 ^ 53
             below a b h k e = omega (arith, mul-le-mul_right b h)
 
-pub moved_back : (t p : ℕ) → p ≤ 52 → t * 2 ^ 1074 ≡ t * 2 ^ p * 2 ^ (1074 - p)
-moved_back t p h = ap (λ i. t * 2 ^ i) (both p h) ∙ ap (λ n. t * n) (pow-add 2 p (1074 - p)) ∙ sym (mul_assoc t (2 ^ p) (2 ^ (1074 - p)))
-  where
-    both : (p : ℕ) → p ≤ 52 → 1074 ≡ p + (1074 - p)
-    both p h = omega arith
+-- such a number has no place
+module _ (d p : ℕ) (l : 0 < p → 2 ^ 52 ≤ d) (h : d < 2 ^ 52) where
+  no_place : p ≡ 0
+  no_place = go p l
+    where
+      go : (p : ℕ) → (0 < p → 2 ^ 52 ≤ d) → p ≡ 0
+      go zero l = refl
+      go (suc p) l = absurd (lt_irrefl d (lt_of_lt_of_le h (l (zero-lt-suc p))))
 
--- ---- excess: r * r by halves of 26 bits is high * 2 ^ 52 + low
-pub record Squares (r : ℕ) : Type 0 where
-  pub high : r / 67108864 * (r / 67108864) ≤ 2 ^ 54
-  pub cross : 2 * (r / 67108864) * (r % 67108864) ≤ 2 ^ 55
-  pub low : r % 67108864 * (r % 67108864) ≤ 2 ^ 52
+  pub moved_back : (k : ℕ) → k ≤ 52 → d * 2 ^ p * 2 ^ 1074 ≡ d * 2 ^ k * 2 ^ (1074 - k)
+  moved_back k i = ap (λ q. d * 2 ^ q * 2 ^ 1074) no_place ∙ ap (λ n. n * 2 ^ 1074) (mul-one d) ∙ ap (λ q. d * 2 ^ q) (both k i) ∙ ap (λ n. d * n) (pow-add 2 k (1074 - k)) ∙ sym (mul_assoc d (2 ^ k) (2 ^ (1074 - k)))
+    where
+      both : (k : ℕ) → k ≤ 52 → 1074 ≡ k + (1074 - k)
+      both k h = omega arith
 
-pub squares : (r : ℕ) → r ≤ 2 ^ 53 → Squares r
-squares r h = let a : r / 67108864 ≤ 2 ^ 27 = omega arith in let b : r % 67108864 ≤ 2 ^ 26 = omega arith in
-    record { high = mul-le-mul a a; cross = twice (r / 67108864) (r % 67108864) (mul-le-mul a b); low = mul-le-mul b b }
-  where
-    twice : (a b : ℕ) → a * b ≤ 2 ^ 27 * 2 ^ 26 → 2 * a * b ≤ 2 ^ 55
-    twice a b h = omega arith
-
-pub excess_is : (d r : ℕ)
-    → let high = r / 67108864 * (r / 67108864) + 2 * (r / 67108864) * (r % 67108864) / 67108864 in
-    let low = 2 * (r / 67108864) * (r % 67108864) % 67108864 * 67108864 + r % 67108864 * (r % 67108864) in
-    d ≤ high + 4 → (high + 4 - d) * 4503599627370496 + low + d * 2 ^ 52 ≡ r * r + 2 ^ 54
-excess_is d r p =
-    let s = r / 67108864 * (r / 67108864) + 2 * (r / 67108864) * (r % 67108864) / 67108864 in
-    let t = 2 * (r / 67108864) * (r % 67108864) % 67108864 * 67108864 + r % 67108864 * (r % 67108864) in
-    go s t (r * r) (s + 4 - d) (omega arith) (square (r / 67108864) (r % 67108864) (2 * (r / 67108864) * (r % 67108864)) (omega arith) refl)
-  where
-    square : (a b m : ℕ) → a * 67108864 + b ≡ r → 2 * a * b ≡ m → r * r ≡ (a * a + m / 67108864) * 2 ^ 52 + (m % 67108864 * 67108864 + b * b)
-    square a b m e f = subst (λ x. x * x ≡ (a * a + m / 67108864) * 2 ^ 52 + (m % 67108864 * 67108864 + b * b)) e (omega (arith, f))
-
-    go : (s t w g : ℕ) → g + d ≡ s + 4 → w ≡ s * 2 ^ 52 + t → g * 4503599627370496 + t + d * 2 ^ 52 ≡ w + 2 ^ 54
-    go s t w g e f = omega arith
+pub placed : (d p : ℕ) → d * 2 ^ p * 2 ^ 1074 ≡ d * 2 ^ (p + 1074)
+placed d p = mul_assoc d (2 ^ p) (2 ^ 1074) ∙ ap (λ n. d * n) (sym (pow-add 2 p 1074))
 
 -- ---- which number is nearest, by the excess x of r
 module _ (n r x : ℕ) (e : x + n ≡ r * r + 2 ^ 54) where
@@ -228,63 +204,41 @@ above (inf false) p = inl refl
 above (fin true m e) p = absurd (holds p)
 above (fin false m e) p = inr (tt, refl)
 
-module _ (x : Float) (t : T (fits binary64 x)) (p : lt (fin false 0 (pos 0)) x ≡ true) where
-  abbrev field : ℕ
-  field = to_bits binary64 x / 2 ^ 52
+pub infinite_root : (x : Float) → eq x (inf false) ≡ true → x ≡ sqrt x
+unfolding eq sqrt
+infinite_root nan h = absurd (holds h)
+infinite_root (inf true) h = absurd (holds h)
+infinite_root (inf false) h = refl
+infinite_root (fin s m e) h = absurd (holds h)
 
-  abbrev digits : ℕ
-  digits = to_bits binary64 x % 2 ^ 52
-
-  pub infinite_root : field ≡ 2047 → x ≡ sqrt x
-  unfolding sqrt
-  infinite_root e = elim (above x p) [
-    | inl i ↦ subst (λ y. y ≡ sqrt y) (sym i) refl
-    | inr f ↦ absurd (never (to_bits binary64 x) (pattern_lt x t f.0 f.1) e)
+module _ (x : Float) (t : T (fits binary64 x)) (p : lt (fin false 0 (pos 0)) x ≡ true) (h : eq x (inf false) ≡ false) (n : Taken)
+    (g : (y : Float) → fits binary64 y ≡ true → finite y ≡ true → sign y ≡ false → to_bits binary64 x ≡ to_bits binary64 y → units_of y ≡ n.digits * 2 ^ n.place) where
+  clear : T (finite x) × (sign x ≡ false)
+  clear = elim (above x p) [
+    | inl i ↦ absurd (fails (ap (λ y. eq y (inf false)) (sym i) ∙ h) (unfold eq in tt))
+    | inr f ↦ f
   ]
+
+  e : units_of x ≡ n.digits * 2 ^ n.place
+  e = g x (is_true (fits binary64 x) t) (is_true (finite x) clear.0) clear.1 refl
+
+  value : Units x false (n.digits * 2 ^ n.place)
+  value = subst₂ (λ s u. Units x s u) clear.1 e (own_units x t clear.0)
+
+  some : 0 < n.digits * 2 ^ n.place
+  some = units_above_zero x (n.digits * 2 ^ n.place) p value
+
+  pub taken_fits : (0 < n.digits) × (n.place ≤ 2045)
+  taken_fits = (lt_by (λ k. lt_irrefl 0 (subst (λ z. 0 < z) (ap (λ d. d * 2 ^ n.place) (none k) ∙ zero-mul (2 ^ n.place)) some)), le (place_below n.digits n.place 2046 n.leading (let o = form x t clear.0 in subst (λ u. u < 2 ^ 2098) (sym o.is ∙ e) (lt_of_lt_of_le o.top (lit≤ tt))) (lit< tt)))
     where
-      never : (b : ℕ) → b < 2047 * 2 ^ 52 → b / 2 ^ 52 ≡ 2047 → ⊥
-      never b h e = omega arith
+      none : {d : ℕ} → d ≤ 0 → d ≡ 0
+      none k = omega arith
 
-  pub field_le : ¬ (field ≡ 2047) → field ≤ 2046
-  field_le n = elim (above x p) [
-    | inl i ↦ absurd (n (ap (λ y. to_bits binary64 y / 2 ^ 52) i ∙ infinite))
-    | inr f ↦ go (to_bits binary64 x) (pattern_lt x t f.0 f.1)
-  ]
-    where
-      infinite : to_bits binary64 (inf false) / 2 ^ 52 ≡ 2047
-      infinite = unfold to_bits in refl
+      le : {k : ℕ} → k < 2046 → k ≤ 2045
+      le k = omega arith
 
-      go : (b : ℕ) → b < 2047 * 2 ^ 52 → b / 2 ^ 52 ≤ 2046
-      go b h = omega arith
-
-  pub subnormal_digits : field ≡ 0 → (0 < digits) × (digits < 2 ^ 52)
-  subnormal_digits e = go (to_bits binary64 x) (units_above_zero x (digits * 2 ^ 0) p (subnormal_units x t e))
-    where
-      go : (b : ℕ) → 0 < b % 2 ^ 52 * 2 ^ 0 → (0 < b % 2 ^ 52) × (b % 2 ^ 52 < 2 ^ 52)
-      go b h = (omega arith, omega arith)
-
-  pub subnormal_root : (m j q : ℕ) → field ≡ 0 → digits * 2 ^ 1074 ≡ m * 2 ^ j → 2 ^ 52 ≤ m → m < 2 ^ 53 → 52 ≤ j → j ≤ 3119 → q ≡ root_pattern m j → of_bits binary64 q ≡ sqrt x
-  subnormal_root m j q e f ge l h i k =
-      let v = subnormal_units x t e in
-      ap (λ z. of_bits binary64 z) k ∙ root_is m j ge l x (digits * 2 ^ 0) t v (units_above_zero x (digits * 2 ^ 0) p v) (ap (λ z. z * 2 ^ 1074) (mul-one digits) ∙ f) h i
-
-  pub normal_root : (q : ℕ) → ¬ (field ≡ 2047) → ¬ (field ≡ 0) → q ≡ root_pattern (digits + 2 ^ 52) (field + 1073) → of_bits binary64 q ≡ sqrt x
-  normal_root q n z k = go field digits refl refl z (field_le n) k
-    where
-      go : (e d : ℕ) → field ≡ e → digits ≡ d → ¬ (e ≡ 0) → e ≤ 2046 → q ≡ root_pattern (d + 2 ^ 52) (e + 1073) → of_bits binary64 q ≡ sqrt x
-      go zero d a b z l k = absurd (z refl)
-      go (suc i) d a b z l k =
-          let v : Units x false ((2 ^ 52 + d) * 2 ^ i) = subst (λ y. Units x false ((2 ^ 52 + y) * 2 ^ i)) b (normal_units x i t a l) in
-          ap (λ y. of_bits binary64 y) k ∙ root_is (d + 2 ^ 52) (suc i + 1073) (omega arith) (few (to_bits binary64 x) d b) x ((2 ^ 52 + d) * 2 ^ i) t v (units_above_zero x ((2 ^ 52 + d) * 2 ^ i) p v) scale (omega arith) (omega arith)
-        where
-          few : (b d : ℕ) → b % 2 ^ 52 ≡ d → d + 2 ^ 52 < 2 ^ 53
-          few b d e = omega arith
-
-          scale : (2 ^ 52 + d) * 2 ^ i * 2 ^ 1074 ≡ (d + 2 ^ 52) * 2 ^ (suc i + 1073)
-          scale = mul_assoc (2 ^ 52 + d) (2 ^ i) (2 ^ 1074) ∙ ap (λ y. (2 ^ 52 + d) * y) (sym (pow-add 2 i 1074)) ∙ ap (λ y. y * 2 ^ (i + 1074)) (add_comm (2 ^ 52) d) ∙ ap (λ y. (d + 2 ^ 52) * 2 ^ y) (step i)
-            where
-              step : (i : ℕ) → i + 1074 ≡ suc i + 1073
-              step i = omega arith
+  pub taken_root : (m j q : ℕ) → n.digits * 2 ^ n.place * 2 ^ 1074 ≡ m * 2 ^ j → 2 ^ 52 ≤ m → m < 2 ^ 53 → 52 ≤ j → j ≤ 3119 → q ≡ root_pattern m j → of_bits binary64 q ≡ sqrt x
+  taken_root m j q f ge l i k r = ap (λ z. of_bits binary64 z) r ∙ root_is m j ge l x (n.digits * 2 ^ n.place) t value some f i k
 
 -- a zero, and what is neither above 0 nor equal to it
 pub zero_root : (x : Float) → eq x (fin false 0 (pos 0)) ≡ true → x ≡ sqrt x

@@ -1,9 +1,5 @@
--- What the roots by whole numbers keep. Digit by digit: r is the whole part of the root of n, and `rest` is what is left, n - r * r. Of a guess: its excess.
-use Rattle.std.specs.Prelude.{◌≡◌, ℕ, ◌+◌, ◌*◌, ◌^◌, ◌≤◌, ◌<◌}
-
-pub record Remainder (n r rest : ℕ) : Type 0 where
-  pub sum : r * r + rest ≡ n
-  pub small : rest ≤ 2 * r
+-- What the roots by whole numbers keep of a guess: its excess.
+use Rattle.std.specs.Prelude.{◌≡◌, ℕ, ◌+◌, ◌*◌, ◌^◌, ◌<◌}
 
 -- x is by how much r * r exceeds d * 2 ^ 52, plus 2 ^ 54; a 0 says nothing
 pub record Excess (d r x : ℕ) : Type 0 where

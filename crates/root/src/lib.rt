@@ -2,19 +2,16 @@
 //
 // `sqrt` takes the digits m and the exponent j of its argument, which is m * 2^j in units of 2^-2148, and finds the whole number
 // nearest to the root of m * 2^52 or m * 2^53. A float computation makes a guess, whole numbers decide: the square of the guess tells whether it
-// is the nearest, or the number after or before it is, and if none is the root is found digit by digit.
+// is the nearest, or the number after or before it is, and if none is the library's whole root decides.
 #![tactic(auto)]
 
 ghost use Rattle.std.specs.Prelude.{◌≡◌, ◌+◌, ◌*◌, ◌%◌, ◌^◌, ◌≤◌, ◌<◌};
-ghost use Rattle.root.specs.Digits.{Remainder, Excess};
-ghost use Rattle.root.specs.Root.{IsRoot, NearestRoot};
+ghost use Rattle.root.specs.Digits.{Excess};
+ghost use Rattle.root.specs.Root.{NearestRoot};
 ghost use Rattle.root.specs.Sqrt.{root_pattern, sqrt as sqrtOf};
 ghost use Rattle.root.specs.Hypot.{hypot_ordered, hypot as hypotOf};
 
-use math::LEADING;
-
-// The half of a 53-digit number: 2^26.
-const HALF: u64 = 67108864;
+use math::{LEADING, Parts};
 
 // 2^54: what an excess of 0 counts as.
 const MIDDLE: u64 = 18014398509481984;
@@ -24,50 +21,13 @@ const LARGEST: f64 = 3.273390607896142e150;
 
 const SMALL: f64 = 3.054936363499605e-151;
 
-// The whole part of the square root of d, bit by bit from the highest.
-fn small_root(d: u64) -> u64
-    requires { d < 2 ^ 54 }
-    ensures { IsRoot d result }
-{
-    let mut low: u64 = 0;
-    let mut step: u64 = 134217728;
-    for _ in 0..27u64 {
-        step = step / 2;
-        let middle = low + step;
-        if middle * middle <= d {
-            low = middle;
-        }
-    }
-    low
-}
-
-// From the root of d, with its remainder, to the root of d * 2^54: twenty-seven digits more.
-fn more_digits(d: u64, root0: u64, rest0: u64) -> u64
-    requires { (root0 < 2 ^ 27) × Remainder d root0 rest0 }
-    ensures { IsRoot (d * 2 ^ 54) result }
-{
-    let mut root = root0;
-    let mut rest = rest0;
-    for _ in 0..27u64 {
-        let next = root * 4 + 1;
-        root = root * 2;
-        rest = rest * 4;
-        if rest >= next {
-            rest -= next;
-            root += 1;
-        }
-    }
-    root
-}
-
-// The whole number nearest to the root of d * 2^52, digit by digit.
-fn root_by_digits(d: u64) -> u64
+// The whole number nearest to the root of d * 2^52: half the root of four times as much, rounded.
+fn exact_root(d: u64) -> u64
     requires { (0 < d) × (d < 2 ^ 54) }
     ensures { NearestRoot (d * 2 ^ 52) result }
 {
-    let s = small_root(d);
-    let r = more_digits(d, s, d - s * s);
-    (r + 1) / 2
+    let root = (d as u128 * (4 * LEADING as u128)).isqrt() as u64;
+    (root + 1) / 2
 }
 
 // A number above 0: m * 2^j / 2^2148, the leading digit of m at the place 2^52.
@@ -82,15 +42,21 @@ struct Scaled {
 }
 
 impl Scaled {
-    // t units of 2^-1074, fewer than the normal numbers have.
-    fn subnormal(t: u64) -> Scaled
-        requires { (0 < t) × (t < 2 ^ 52) }
-        ensures { t * 2 ^ 1074 ≡ result.m * 2 ^ result.j }
+    // A float above 0, its leading digit moved up where it has fewer digits than the normal numbers.
+    fn of(n: Parts) -> Scaled
+        requires { (0 < n.digits) × (n.place ≤ 2045) }
+        ensures { n.digits * 2 ^ n.place * 2 ^ 1074 ≡ result.m * 2 ^ result.j }
     {
-        let places = t.leading_zeros() as u64 - 11;
+        if n.digits < LEADING {
+            let places = n.digits.leading_zeros() as u64 - 11;
+            return Scaled {
+                m: n.digits << places,
+                j: 1074 - places,
+            };
+        }
         Scaled {
-            m: t << places,
-            j: 1074 - places,
+            m: n.digits,
+            j: n.place + 1074,
         }
     }
 
@@ -146,23 +112,16 @@ impl Scaled {
     }
 }
 
-// By how much r * r exceeds d * 2^52, plus 2^54; or 0 where it is far from it. r * r by halves of 26 bits is high * 2^52 + low.
+// By how much r * r exceeds d * 2^52, plus 2^54; or 0 where it is far from it.
 fn excess(d: u64, r: u64) -> u64
     requires { (d < 2 ^ 54) × (r ≤ 2 ^ 53) }
     ensures { Excess d r result }
 {
-    let r1 = r / HALF;
-    let r0 = r % HALF;
-    let cross = 2 * r1 * r0;
-    let high = r1 * r1 + cross / HALF;
-    let low = cross % HALF * HALF + r0 * r0;
-    if high + 4 < d {
-        return 0;
+    let square = r as u128 * r as u128 + MIDDLE as u128;
+    match square.checked_sub(d as u128 * LEADING as u128) {
+        Some(x) if x < 4 * MIDDLE as u128 => x as u64,
+        _ => 0,
     }
-    if d + 4 < high {
-        return 0;
-    }
-    (high + 4 - d) * LEADING + low
 }
 
 // r tried as the root of d * 2^52, with the excess x of its square.
@@ -179,21 +138,19 @@ struct Trial {
 }
 
 impl Trial {
-    // Where r is too small: the number after it, or the root by its digits.
+    // Where r is too small: the number after it, or the root by the library.
     fn one_more(self) -> u64
         requires { self.x + self.r < 2 ^ 54 }
         ensures { NearestRoot (self.d * 2 ^ 52) result }
     {
         let Trial { d, r, x } = self;
-        if 0 < x {
-            if MIDDLE <= x + 3 * r + 2 {
-                return r + 1;
-            }
+        if 0 < x && MIDDLE <= x + 3 * r + 2 {
+            return r + 1;
         }
-        root_by_digits(d)
+        exact_root(d)
     }
 
-    // Where r is too large: the number before it, or the root by its digits.
+    // Where r is too large: the number before it, or the root by the library.
     fn one_less(self) -> u64
         requires { 2 ^ 54 + self.r ≤ self.x }
         ensures { NearestRoot (self.d * 2 ^ 52) result }
@@ -202,7 +159,7 @@ impl Trial {
         if x + 2 < MIDDLE + 3 * r {
             return r - 1;
         }
-        root_by_digits(d)
+        exact_root(d)
     }
 }
 
@@ -211,23 +168,11 @@ pub fn sqrt(x: f64) -> f64
     ensures { result ≡ sqrtOf x }
 {
     if x > 0.0 {
-        let pattern = f64::to_bits(x);
-        let field = pattern / LEADING;
-        let digits = pattern % LEADING;
-        if field == 2047 {
+        if x == f64::INFINITY {
             return x;
         }
-        if field == 0 {
-            let n = Scaled::subnormal(digits);
-            let q = n.root_pattern();
-            return f64::from_bits(q);
-        }
-        let n = Scaled {
-            m: digits + LEADING,
-            j: field + 1073,
-        };
-        let q = n.root_pattern();
-        return f64::from_bits(q);
+        let n = Scaled::of(Parts::of_pattern(f64::to_bits(x)));
+        return f64::from_bits(n.root_pattern());
     }
     if x == 0.0 {
         return x;

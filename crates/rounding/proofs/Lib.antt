@@ -1,3 +1,3 @@
--- Laws on rounding, which the functions' proofs cite.
+-- Laws on the definitions, which the functions' proofs cite.
 pub mod Cast
 pub mod Whole

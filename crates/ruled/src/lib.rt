@@ -2,8 +2,7 @@
 // equation with its definition (rulings, specs/Ruled.antt) and the order's third demand, clause by clause (specs/Demand3.antt there).
 #![tactic(auto)]
 
-ghost use Rattle.std.specs.Prelude.{◌≡◌, ◌≤◌, OnOk, length};
-ghost use Rattle.room.specs.Room.{max_contacts};
+ghost use Rattle.std.specs.Prelude.{◌≡◌, OnOk, length};
 ghost use Rattle.arguments.specs.Check as Check;
 ghost use Rattle.rulings.specs.Demand3.{Demand3};
 ghost use Rattle.rulings.specs.Ruled as Spec;
@@ -12,33 +11,34 @@ ghost use Rattle.traffic.specs.Traffic as Around;
 use choice::{Chosen, Search};
 use constraints::ManoeuvreConstraints;
 use elementary::error::Refusal;
-use motion::units::{Direction, Distance};
+use motion::units::Distance;
 use motion::vessel::Vessel;
 use rulings::RuledManoeuvre;
 use situation::check;
-use situation::party::{Party, Visibility};
+use situation::party::Circumstances;
 use traffic::Entry;
+use trials::TrialList;
 
 // The count of contacts, own craft, the contacts entry by entry, the wind, the desired distance, the constraints.
 fn check_arguments(
-    own: Party,
+    around: Circumstances,
     t: &[Entry],
-    wind: Option<Direction>,
     desired: Distance,
     c: ManoeuvreConstraints,
 ) -> Result<(), Refusal>
-    ensures checked { result ≡ Check.checked (Spec.ruled_checks own (length t.now) t.now wind desired c) }
+    ensures checked { result ≡ Check.checked (Spec.ruled_checks around.own (length t.now) t.now around.wind_from desired c) }
     ensures held { OnOk result (Around.HeldEntries t.now) }
 {
     traffic::check_count(t.len())?;
-    check::check_party(own)?;
+    check::check_party(around.own)?;
     traffic::check_contacts(t)?;
-    check::check_perhaps(wind)?;
+    check::check_perhaps(around.wind_from)?;
     arguments::check_distance(desired)?;
     constraints::check_constraints(c)
 }
 
-// What is said of a trial that was chosen.
+// What is said of a trial that was chosen. Apart from `avoid`'s of this name: one function would need one type of answer, and this one has the
+// side, the magnitude and the limiting contact.
 fn manoeuvre_of(own: Vessel, c: ManoeuvreConstraints, chosen: Chosen) -> RuledManoeuvre
     ensures { result ≡ Spec.manoeuvre_of own c chosen }
 {
@@ -65,44 +65,27 @@ fn chosen_answer(
         .ok_or(Refusal::NoTrialClears)
 }
 
-// With accepted arguments.
-fn search(
-    own: Party,
-    t: &[Entry],
-    visibility: Visibility,
-    wind: Option<Direction>,
-    desired: Distance,
-    c: ManoeuvreConstraints,
-) -> Result<RuledManoeuvre, Refusal>
-    requires { length t.now ≤ max_contacts }
-    ensures { result ≡ Spec.ruled_as own t.now visibility wind desired c }
-{
-    let sides = rulings::shared_sides(own, t, visibility, wind);
-    if sides.starboard | sides.port {
-        let scene = traffic::scene_of(t);
-        let search = Search {
-            own: own.motion,
-            scene: &scene,
-            floor: desired.0 - 1e-9,
-        };
-        let found = search.smallest(sides, c.least_alteration().0, c.most_alteration().0);
-        return chosen_answer(own.motion, c, found);
-    }
-    Err(Refusal::NoSharedSide)
-}
-
 // The smallest trial that clears every contact, on a side that every contact's ruling permits, starboard of equal ones. Arguments are
 // checked in document 01's order; it refuses with 13 where no side is shared, then with 5 where no trial on a shared side clears.
 pub fn ruled_search(
-    own: Party,
+    around: Circumstances,
     t: &[Entry],
-    visibility: Visibility,
-    wind: Option<Direction>,
     desired: Distance,
     constraints: ManoeuvreConstraints,
 ) -> Result<RuledManoeuvre, Refusal>
-    ensures { (result ≡ Spec.ruled_answer own (length t.now) t.now visibility wind desired constraints) × Demand3 own t.now visibility wind desired constraints (length t.now) result }
+    ensures { (result ≡ Spec.ruled_answer around.own (length t.now) t.now around.visibility around.wind_from desired constraints) × Demand3 around.own t.now around.visibility around.wind_from desired constraints (length t.now) result }
 {
-    check_arguments(own, t, wind, desired, constraints)?;
-    search(own, t, visibility, wind, desired, constraints)
+    check_arguments(around, t, desired, constraints)?;
+    let own = around.own.motion;
+    let sides = rulings::shared_sides(around, t);
+    if sides.starboard | sides.port {
+        let scene = traffic::scene_of(t);
+        let search = Search::new(own, &scene, desired);
+        let list = TrialList {
+            least: constraints.least_alteration().0,
+            most: constraints.most_alteration().0,
+        };
+        return chosen_answer(own, constraints, search.smallest(sides, list));
+    }
+    Err(Refusal::NoSharedSide)
 }

@@ -1,8 +1,8 @@
 // The fields of a contact's line that come from its ruling, each appended with the space that follows it.
-#![tactic(auto)]
+#![tactic(auto, unfolding(text::specs::Text::bytes))]
 
 ghost use Rattle.std.specs.Prelude.{◌≡◌};
-ghost use Rattle.text.specs.Text.{shown, appended};
+ghost use Rattle.text.specs.Text.{appended};
 ghost use Rattle.text.specs.Line.{spaced};
 ghost use Rattle.ruling_fields.specs.Fields as Spec;
 
@@ -11,8 +11,8 @@ use motion::side::Side;
 use text::Text;
 
 // A crossing, by the side on which the target is.
-fn crossing(t: Text, side: Side) -> Text
-    ensures { shown result ≡ appended (shown t) (spaced (Spec.crossing_field side)) }
+fn crossing(t: &mut Text, side: Side)
+    ensures { t.new ≡ appended t.old (spaced (Spec.crossing_field side)) }
 {
     match side {
         Side::Port => t.put(b"CROSSING-P "),
@@ -21,8 +21,8 @@ fn crossing(t: Text, side: Side) -> Text
 }
 
 // The kind of the encounter.
-pub fn encounter(t: Text, e: Encounter) -> Text
-    ensures { shown result ≡ appended (shown t) (spaced (Spec.encounter_field e)) }
+pub fn encounter(t: &mut Text, e: Encounter)
+    ensures { t.new ≡ appended t.old (spaced (Spec.encounter_field e)) }
 {
     match e {
         Encounter::Overtaking => t.put(b"OVERTAKING "),
@@ -33,8 +33,8 @@ pub fn encounter(t: Text, e: Encounter) -> Text
 }
 
 // Own craft's duty.
-pub fn responsibility(t: Text, duty: Responsibility) -> Text
-    ensures { shown result ≡ appended (shown t) (spaced (Spec.responsibility_field duty)) }
+pub fn responsibility(t: &mut Text, duty: Responsibility)
+    ensures { t.new ≡ appended t.old (spaced (Spec.responsibility_field duty)) }
 {
     match duty {
         Responsibility::GiveWay => t.put(b"GIVEWAY "),

@@ -11,7 +11,7 @@ use elementary::error::Refusal;
 use motion::side::Side;
 use words::refused;
 
-// The codes of the C interface: the enums have no numbers of their own.
+// The codes of the C interface: of an encounter, one for each side of a crossing.
 fn encounter_code(e: Encounter) -> u64
     ensures { result ≡ Spec.encounter_code e }
 {
@@ -28,15 +28,11 @@ fn encounter_code(e: Encounter) -> u64
     }
 }
 
+// The enum's own number.
 fn responsibility_code(duty: Responsibility) -> u64
     ensures { result ≡ Spec.responsibility_code duty }
 {
-    match duty {
-        Responsibility::GiveWay => 0,
-        Responsibility::StandOn => 1,
-        Responsibility::Both => 2,
-        Responsibility::Undetermined => 3,
-    }
+    duty as u64
 }
 
 fn ruled(r: Ruling) -> [u64; 8]
@@ -58,8 +54,5 @@ fn ruled(r: Ruling) -> [u64; 8]
 pub fn ruling_words(answer: Result<Ruling, Refusal>) -> [u64; 8]
     ensures { result ≡ Spec.ruling_words answer }
 {
-    match answer {
-        Ok(r) => ruled(r),
-        Err(why) => refused(why),
-    }
+    answer.map_or_else(refused, ruled)
 }

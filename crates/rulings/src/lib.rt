@@ -11,7 +11,7 @@ use elementary::error::Refusal;
 use motion::side::Side;
 use motion::units::{Angle, Direction, Distance};
 use situation::config::ColregsConfig;
-use situation::party::{Party, Situation, Visibility};
+use situation::party::Circumstances;
 use time::Duration;
 use traffic::Entry;
 
@@ -44,19 +44,15 @@ fn permitted_by(answer: Result<Ruling, Refusal>) -> Sides
 }
 
 // The sides that the ruling on one contact permits.
-fn sides_of(own: Party, visibility: Visibility, wind: Option<Direction>, e: Entry) -> Sides
-    ensures { result ≡ Spec.sides_of own visibility wind e }
+#[tactic(auto, unfolding(crate::specs::Ruled::sides_of))]
+fn sides_of(around: Circumstances, e: Entry) -> Sides
+    ensures { result ≡ Spec.sides_of around.own around.visibility around.wind_from e }
 {
-    let s = Situation {
-        own,
-        target: e.target,
-        contact: e.contact,
-        visibility,
-        wind_from: wind,
-    };
+    let s = around.with(e.contact, e.target);
     permitted_by(ruling::rule_of_the_road(s, ColregsConfig::STANDARD))
 }
 
+#[tactic(auto, unfolding(crate::specs::Ruled::in_both))]
 fn in_both(a: Sides, b: Sides) -> Sides
     ensures { result ≡ Spec.in_both a b }
 {
@@ -67,20 +63,15 @@ fn in_both(a: Sides, b: Sides) -> Sides
 }
 
 // The sides that the rulings on all contacts permit; both without contacts.
-pub fn shared_sides(
-    own: Party,
-    t: &[Entry],
-    visibility: Visibility,
-    wind: Option<Direction>,
-) -> Sides
-    ensures { result ≡ Spec.shared_sides own visibility wind t.now }
+pub fn shared_sides(around: Circumstances, t: &[Entry]) -> Sides
+    ensures { result ≡ Spec.shared_sides around.own around.visibility around.wind_from t.now }
 {
     let mut sides = Sides {
         starboard: true,
         port: true,
     };
     for e in t {
-        sides = in_both(sides, sides_of(own, visibility, wind, *e));
+        sides = in_both(sides, sides_of(around, *e));
     }
     sides
 }

@@ -30,6 +30,7 @@ one_side side clears c [] = refl
 one_side side clears (Some c) (m ∷ ms) = one_side side clears (Some c) ms
 one_side side clears None (m ∷ ms) = ap (λ c. fold (or_both (only side) clears) c ms) (alone side clears m) ∙ one_side side clears (chosen side m (clears side m)) ms
 
-pub trials_alone : (own : Vessel) (scene : List Moving) (floor : Float) (side : Side) (least most : Float) → smallest own floor scene (only side) least most ≡ first (clears_on own floor scene side) side (trials least most)
+pub trials_alone : (own : Vessel) (scene : List Moving) (floor : Float) (side : Side) (least most : Float)
+    → smallest own floor scene (only side) least most ≡ first (clears_on own floor scene side) side (trials least most)
 unfolding smallest between first
 trials_alone own scene floor side least most = one_side side (clears_on own floor scene) None (trials least most)

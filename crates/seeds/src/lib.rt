@@ -13,8 +13,7 @@ use course::Avoidance;
 use elementary::error::Refusal;
 use motion::side::Side;
 use motion::units::Direction;
-use motion::vessel::Vessel;
-use passages::Moving;
+use trials::TrialList;
 
 // The courses of an answer, none on either side where it is refused.
 pub fn courses_in(answer: Result<Avoidance, Refusal>) -> Avoidance
@@ -69,17 +68,17 @@ fn on_side(
     permitted: bool,
     side: Side,
     seed: Option<f64>,
-    least: f64,
-    most: f64,
+    list: TrialList,
 ) -> Option<Chosen>
-    ensures { result ≡ Spec.seeded_side permitted (Choosing.clears_on search.now.own search.now.floor search.now.scene.now side) side most seed (trials least most) }
+    ensures { result ≡ Spec.seeded_side permitted (Choosing.clears_on search.now.own search.now.floor search.now.scene.now side) side list.most seed (trials list.least list.most) }
 {
     if !permitted {
         return None;
     }
-    match try_seed(search, side, most, seed) {
+    // A match: of a closure that borrows a type with a lifetime, here `&Search<'_>`, `or_else` says nothing of what it returns.
+    match try_seed(search, side, list.most, seed) {
         Some(c) => Some(c),
-        None => search.smallest(only(side), least, most),
+        None => search.smallest(only(side), list),
     }
 }
 
@@ -104,23 +103,20 @@ pub fn seeded_choice(
     ensures { result ≡ Spec.seeded_choice search.now.own (Choosing.clears_on search.now.own search.now.floor search.now.scene.now) courses c }
 {
     let sides = c.sides();
-    let least = c.least_alteration();
-    let most = c.most_alteration();
-    let starboard_seed = seed_on(
-        search.own.course,
-        Side::Starboard,
-        least.0,
-        courses.starboard,
-    );
-    let port_seed = seed_on(search.own.course, Side::Port, least.0, courses.port);
+    let list = TrialList {
+        least: c.least_alteration().0,
+        most: c.most_alteration().0,
+    };
+    let own = search.own.course;
+    let starboard_seed = seed_on(own, Side::Starboard, list.least, courses.starboard);
+    let port_seed = seed_on(own, Side::Port, list.least, courses.port);
     let starboard = on_side(
         search,
         sides.starboard(),
         Side::Starboard,
         starboard_seed,
-        least.0,
-        most.0,
+        list,
     );
-    let port = on_side(search, sides.port(), Side::Port, port_seed, least.0, most.0);
+    let port = on_side(search, sides.port(), Side::Port, port_seed, list);
     smaller_of(starboard, port)
 }

@@ -1,2 +1,2 @@
 -- What the code of the sums owes.
-pub mod Halves
+pub mod Written

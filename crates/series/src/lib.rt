@@ -14,20 +14,13 @@ pub const ONE: u64 = 288230376151711744;
 // 32 units, as an f64: 2^-53.
 pub const GRID: f64 = 1.1102230246251565e-16;
 
-// The half of a number of units: 2^29.
-const HALF: u64 = 536870912;
-
-// The product of a and b, cut to whole units, by halves of 29 bits.
+// The product of a and b, cut to whole units. Units stay plain numbers, and `≤ 2 ^ 58` a clause: what is made of them are differences, halves
+// and quotients, each of which would be made a unit anew.
 fn mul58(a: u64, b: u64) -> u64
     requires { (a ≤ 2 ^ 58) × (b ≤ 2 ^ 58) }
     ensures { (result ≡ a * b / 2 ^ 58) × (result ≤ b) }
 {
-    let a1 = a / HALF;
-    let a0 = a % HALF;
-    let b1 = b / HALF;
-    let b0 = b % HALF;
-    let middle = a1 * b0 + a0 * b1 + a0 * b0 / HALF;
-    a1 * b1 + middle / HALF
+    ((a as u128 * b as u128) >> 58) as u64
 }
 
 // The product of a and b, cut to whole units; 0 where one of them is above one.
@@ -51,19 +44,8 @@ fn step(z: u64, q: u64, c: u64) -> u64
     c - mul58(z, q)
 }
 
-// The same where q has at most 33 bits, which leaves two columns of the product.
-fn small_step(z: u64, q: u64, c: u64) -> u64
-    requires { (z ≤ 2 ^ 58) × (q ≤ 2 ^ 33) × (q ≤ c) }
-    ensures { (result ≡ c - z * q / 2 ^ 58) × (result ≤ c) }
-{
-    let z1 = z / HALF;
-    let z0 = z % HALF;
-    let product = (z1 * q + z0 * q / HALF) / HALF;
-    c - product
-}
-
-// The two series stand written out, each with its own coefficients: the size of a coefficient says
-// which product its step can take, which a loop over a table of them would test at each.
+// The two series stand written out: a loop over a table of coefficients would need its order, that none is above the next, as a clause
+// and an invariant, where each step here has it from its own two numbers.
 //
 // 1 - z / 3! + z^2 / 5! - ...: the coefficients are ONE / 19!, ONE / 17!, ...; ONE / 21! is no whole unit. 0 for a z above one.
 pub fn sine_series(z: u64) -> u64
@@ -72,11 +54,11 @@ pub fn sine_series(z: u64) -> u64
     if z > ONE {
         return 0;
     }
-    let q8 = small_step(z, 2, 810);
-    let q7 = small_step(z, q8, 220414);
-    let q6 = small_step(z, q7, 46287042);
-    let q5 = small_step(z, q6, 7220778623);
-    let q4 = small_step(z, q5, 794285648566);
+    let q8 = step(z, 2, 810);
+    let q7 = step(z, q8, 220414);
+    let q6 = step(z, q7, 46287042);
+    let q5 = step(z, q6, 7220778623);
+    let q4 = step(z, q5, 794285648566);
     let q3 = step(z, q4, 57188566696768);
     let q2 = step(z, q3, 2401919801264264);
     let q1 = step(z, q2, 48038396025285290);
@@ -90,10 +72,10 @@ pub fn cosine_series(z: u64) -> u64
     if ONE < z {
         return 0;
     }
-    let q7 = small_step(z, 90, 27551);
-    let q6 = small_step(z, q7, 6612434);
-    let q5 = small_step(z, q6, 1203463103);
-    let q4 = small_step(z, q5, 158857129713);
+    let q7 = step(z, 90, 27551);
+    let q6 = step(z, q7, 6612434);
+    let q5 = step(z, q6, 1203463103);
+    let q4 = step(z, q5, 158857129713);
     let q3 = step(z, q4, 14297141674192);
     let q2 = step(z, q3, 800639933754754);
     let q1 = step(z, q2, 24019198012642645);

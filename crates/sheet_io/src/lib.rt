@@ -29,6 +29,5 @@ pub fn print_report<W: Write>(output: &mut W, sheet: &[u8]) -> io::Result<()>
     ensures { OnOk result
         (Appends (W.contents output.old) (W.contents output.new) (report sheet.now)) }
 {
-    let t = report::report(sheet);
-    output.write_all(&t.bytes[..t.size()])
+    output.write_all(report::report(sheet).as_bytes())
 }

@@ -13,6 +13,7 @@ use sheet_values::scaled;
 use time::Duration;
 
 // The id of the limiting contact, 0 where there is none.
+#[tactic(auto, using(crate::proofs::Ids::beyond, crate::proofs::Ids::inside), unfolding(crate::specs::Limits::id_at))]
 pub fn id_at(rows: &[Row], limiting: Option<usize>) -> u32
     ensures { result ≡ Spec.id_at rows.now limiting }
 {
@@ -23,6 +24,7 @@ pub fn id_at(rows: &[Row], limiting: Option<usize>) -> u32
 }
 
 // The limits of the assessment.
+#[tactic(auto, unfolding(crate::specs::Limits::policy_on))]
 pub fn policy_on(h: Header) -> Result<CpaPolicy, Refusal>
     ensures { result ≡ Spec.policy_on h }
 {
@@ -34,6 +36,7 @@ pub fn policy_on(h: Header) -> Result<CpaPolicy, Refusal>
 }
 
 // The limits of the turn; the ruled search takes no sides from its caller.
+#[tactic(auto, unfolding(crate::specs::Limits::constraints_on))]
 pub fn constraints_on(h: Header) -> Result<ManoeuvreConstraints, Refusal>
     ensures { result ≡ Spec.constraints_on h }
 {

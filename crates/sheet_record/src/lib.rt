@@ -53,6 +53,7 @@ fn wind_of(bytes: &[u8]) -> Option<u32>
 }
 
 // The header of a sheet; what is not there is 0, and an unknown wind.
+#[tactic(auto, unfolding(crate::specs::Record::header_of))]
 pub fn header_of(bytes: &[u8]) -> Header
     ensures { result ≡ Spec.header_of (Words.words bytes.now) }
 {
@@ -71,6 +72,7 @@ pub fn header_of(bytes: &[u8]) -> Header
 }
 
 // How many whole contacts follow the header.
+#[tactic(auto, using(crate::proofs::Counting::few, crate::proofs::Counting::many))]
 pub fn contact_count(bytes: &[u8]) -> usize
     ensures { result ≡ Spec.contact_count (Words.words bytes.now) }
 {
@@ -83,6 +85,7 @@ pub fn contact_count(bytes: &[u8]) -> usize
 }
 
 // The contact whose words begin at word i; what is not there is 0.
+#[tactic(auto, unfolding(crate::specs::Record::row_from))]
 fn row_from(bytes: &[u8], i: usize) -> Row
     ensures { result ≡ Spec.row_from (Words.words bytes.now) (Spec.held i) }
 {
@@ -111,6 +114,7 @@ pub fn rows_of(bytes: &[u8]) -> ArrayVec<Row, MAX_CONTACTS>
 }
 
 // The layout, then the count of contacts.
+#[tactic(auto, using(crate::proofs::Counting::out_of_order, crate::proofs::Counting::right, crate::proofs::Counting::too_many))]
 pub fn check_layout(bytes: &[u8]) -> Result<(), Refusal>
     ensures { result ≡ Spec.readable bytes.now }
 {

@@ -9,6 +9,7 @@ use Rattle.situation.specs.declared.party.VesselCategory.{VesselCategory}
 use Rattle.situation.specs.Codes.{category_by}
 unfoldable pub use Rattle.situation.specs.Codes.{visibility_of}
 use Rattle.situation.specs.declared.party.Party.{Party}
+use Rattle.situation.specs.declared.party.Circumstances.{Circumstances}
 use Rattle.std.specs.declared.option.Option.{Option}
 use Rattle.motion.specs.declared.units.Direction.{Direction}
 use Rattle.traffic.specs.declared.Entry.{Entry}
@@ -43,6 +44,10 @@ wind_by (Some n) = Some (record { 0 = scaled n })
 
 unfoldable pub wind_from : Header → Option Direction
 wind_from h = wind_by h.wind
+
+-- what the rulings on all contacts share
+unfoldable pub circumstances_of : Header → Circumstances
+circumstances_of h = record { own = own_of h; visibility = visibility_of h.visibility; wind_from = wind_from h }
 
 unfoldable pub entry_of : Row → Entry
 entry_of row = record {

@@ -1,8 +1,7 @@
 // What the whole numbers of a sheet stand for: quantities in 1/1024, codes, own craft and the traffic.
 #![tactic(auto)]
 
-ghost use Rattle.std.specs.Prelude.{◌≡◌, map, take};
-ghost use Rattle.room.specs.Room.{max_contacts};
+ghost use Rattle.std.specs.Prelude.{◌≡◌, map};
 ghost use Rattle.sheet_values.specs.Values as Spec;
 
 use arrayvec::ArrayVec;
@@ -11,10 +10,11 @@ use motion::vessel::{Contact, Vessel};
 use room::MAX_CONTACTS;
 use sheet_record::{Header, Row};
 use situation::code;
-use situation::party::{Party, Tack, VesselCategory};
+use situation::party::{Circumstances, Party, Tack, VesselCategory, Visibility};
 use traffic::Entry;
 
 // A count of 1/1024, exactly.
+#[tactic(auto, using(std::proofs::Common::refl), unfolding(crate::specs::Values::scaled))]
 pub fn scaled(n: u32) -> f64
     ensures { result ≡ Spec.scaled n }
 {
@@ -66,6 +66,18 @@ pub fn wind_from(h: Header) -> Option<Direction>
     h.wind.map(|n| Direction(scaled(n)))
 }
 
+// What the rulings on a sheet's contacts share.
+#[tactic(auto, unfolding(crate::specs::Values::circumstances_of))]
+pub fn circumstances_of(h: Header) -> Circumstances
+    ensures { result ≡ Spec.circumstances_of h }
+{
+    Circumstances {
+        own: own_of(h),
+        visibility: Visibility::from(h.visibility),
+        wind_from: wind_from(h),
+    }
+}
+
 // A contact of a sheet; she heads where she goes.
 #[tactic(auto, unfolding(crate::specs::Values::entry_of, crate::specs::Values::party_of))]
 pub fn entry_of(row: Row) -> Entry
@@ -80,13 +92,13 @@ pub fn entry_of(row: Row) -> Entry
     }
 }
 
-// The traffic of a sheet's contacts, in their order: of the first MAX_CONTACTS, where there are more.
-pub fn traffic_of(rows: &[Row]) -> ArrayVec<Entry, MAX_CONTACTS>
-    ensures { result.items ≡ map Spec.entry_of (take max_contacts rows.now) }
+// The traffic of a sheet's contacts, in their order.
+pub fn traffic_of(rows: &ArrayVec<Row, MAX_CONTACTS>) -> ArrayVec<Entry, MAX_CONTACTS>
+    ensures { result.items ≡ map Spec.entry_of rows.now.items }
 {
-    let held = room::first(rows);
+    let listed = rows.as_slice();
     let mut t = ArrayVec::new();
-    for row in held {
+    for row in listed {
         t.push(entry_of(*row));
     }
     t

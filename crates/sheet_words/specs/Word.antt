@@ -13,10 +13,6 @@ words (a ∷ b ∷ []) = []
 words (a ∷ b ∷ c ∷ []) = []
 words (a ∷ b ∷ c ∷ d ∷ s) = word_of a b c d ∷ words s
 
--- the word that begins at byte p
-abbrev pub word_from : List ℕ → ℕ → ℕ
-word_from s p = word_of (get_or s p 0) (get_or s (p + 1) 0) (get_or s (p + 2) 0) (get_or s (p + 3) 0)
-
 abbrev pub kind : ℕ → ℕ
 kind w = w / 268435456
 

@@ -1,12 +1,15 @@
 // An encounter sheet's bytes as words, and the order of their kinds (document 01, 'Encounter sheet and its program').
 #![tactic(auto)]
 
-ghost use Rattle.std.specs.Prelude.{◌≡◌, length, get_or, ◌*◌, ◌+◌, ◌≤◌, ◌<◌};
-ghost use Rattle.std.proofs.Math.Seq.{slice};
+ghost use Rattle.std.specs.Prelude.{◌≡◌, get_or, map, ◌≤◌};
+ghost use Rattle.std.specs.Int.{w32, from_le_bytes};
 ghost use Rattle.sheet_words.specs.Word as Spec;
 
 // The largest sheet that is read, in bytes.
 pub const MAX_BYTES: usize = 4096;
+
+// How many values a word's low 28 bits have: a kind counts so much in a word.
+pub const VALUES: u32 = 268435456;
 
 // The kinds of words, by their numbers in the top four bits.
 #[derive(Clone, Copy)]
@@ -40,83 +43,66 @@ impl Kind {
     }
 }
 
-fn wide(b: u8) -> u32
-    ensures { (result ≡ b) × (result < 256) }
+// The words of a sheet, each as its four bytes; what is left over makes no word.
+#[tactic(auto, using(crate::proofs::Words::chunked))]
+fn words_of(bytes: &[u8]) -> &[[u8; 4]]
+    ensures { map (from_le_bytes w32) result.now ≡ Spec.words bytes.now }
 {
-    b as u32
-}
-
-// The word that begins at a byte, the least significant byte first.
-fn word_from(bytes: &[u8], p: usize) -> u32
-    requires { p + 4 ≤ length bytes.now }
-    ensures { result ≡ Spec.word_from bytes.now p }
-{
-    wide(bytes[p])
-        + wide(bytes[p + 1]) * 256
-        + wide(bytes[p + 2]) * 65536
-        + wide(bytes[p + 3]) * 16777216
+    let (words, _) = bytes.as_chunks::<4>();
+    words
 }
 
 // Word i of a sheet, 0 where there is none.
 pub fn word_at(bytes: &[u8], i: usize) -> u32
     ensures { result ≡ get_or (Spec.words bytes.now) i 0 }
 {
-    let count = bytes.len() / 4;
-    if i < count {
-        return word_from(bytes, 4 * i);
-    }
-    0
+    words_of(bytes).get(i).map_or(0, |w| u32::from_le_bytes(*w))
 }
 
-// The kind of a word, its top four bits.
+// The kind of a word, its top four bits. A kind that is read stays its number, as do those that follow: document 01 orders the words by it,
+// and an enum would want a table of sixteen arms back from the number.
 pub fn kind_of(word: u32) -> u32
     ensures { result ≡ Spec.kind word }
 {
-    word / 268435456
+    word / VALUES
 }
 
 // The value of a word, its low 28 bits.
 pub fn value_of(word: u32) -> u32
     ensures { result ≡ Spec.value word }
 {
-    word % 268435456
+    word % VALUES
 }
 
-// The kind that follows one. It stays a number: document 01 gives the order of the words by the numbers of their kinds.
+// The kind that follows one.
 fn next_kind(kind: u32) -> u32
     ensures { result ≡ Spec.next_kind kind }
 {
-    if kind < 14 {
-        return kind + 1;
-    }
-    9
+    if kind < 14 { kind + 1 } else { 9 }
 }
 
 // Whether a sheet tells the wind: its tenth word is of kind F.
+#[tactic(auto, unfolding(crate::specs::Word::number))]
 pub fn has_wind(bytes: &[u8]) -> bool
     ensures { result ≡ Spec.has_wind (Spec.words bytes.now) }
 {
-    kind_of(word_at(bytes, 9)) == 15
+    kind_of(word_at(bytes, 9)) == Kind::Wind.number()
 }
 
 // How many words come before the contacts.
 pub fn header_length(bytes: &[u8]) -> usize
     ensures { result ≡ Spec.header_length (Spec.words bytes.now) }
 {
-    if has_wind(bytes) {
-        return 10;
-    }
-    9
+    if has_wind(bytes) { 10 } else { 9 }
 }
 
-// Whether the kinds of the words from one place up to another are in order, `first` being due first.
-fn in_order(bytes: &[u8], first: u32, from: usize, to: usize) -> bool
-    requires { to ≤ length (Spec.words bytes.now) }
-    ensures { result ≡ Spec.in_order first (slice from to (Spec.words bytes.now)) }
+// Whether the kinds of words are in order, `first` being due first.
+fn in_order(first: u32, words: &[[u8; 4]]) -> bool
+    ensures { result ≡ Spec.in_order first (map (from_le_bytes w32) words.now) }
 {
     let mut kind = first;
-    for i in from..to {
-        if kind_of(word_from(bytes, 4 * i)) != kind {
+    for w in words {
+        if kind_of(u32::from_le_bytes(*w)) != kind {
             return false;
         }
         kind = next_kind(kind);
@@ -128,26 +114,17 @@ fn in_order(bytes: &[u8], first: u32, from: usize, to: usize) -> bool
 fn is_ordered(bytes: &[u8]) -> bool
     ensures { result ≡ Spec.ordered (Spec.words bytes.now) }
 {
-    let count = bytes.len() / 4;
-    if count < 9 {
+    let words = words_of(bytes);
+    if words.len() < 9 {
         return false;
     }
-    if in_order(bytes, 0, 0, 9) {
-        return in_order(bytes, 9, header_length(bytes), count);
-    }
-    false
+    in_order(0, &words[..9]) && in_order(9, &words[header_length(bytes)..])
 }
 
 // Whether a sheet's layout is right: whole words, not too many, their kinds in order.
+#[tactic(auto, unfolding(crate::specs::Word::layout))]
 pub fn in_layout(bytes: &[u8]) -> bool
     ensures { result ≡ Spec.layout bytes.now }
 {
-    let len = bytes.len();
-    if len > MAX_BYTES {
-        return false;
-    }
-    if len % 4 == 0 {
-        return is_ordered(bytes);
-    }
-    false
+    bytes.len() <= MAX_BYTES && bytes.len() % 4 == 0 && is_ordered(bytes)
 }

@@ -11,6 +11,7 @@ use Rattle.std.specs.declared.option.Option.{Option}
 use Rattle.situation.specs.declared.party.Party.{Party}
 use Rattle.situation.specs.declared.party.Visibility.{Visibility}
 use Rattle.situation.specs.declared.party.Situation.{Situation}
+use Rattle.situation.specs.declared.party.Circumstances.{Circumstances}
 use Rattle.situation.specs.declared.config.ColregsConfig.{ColregsConfig}
 
 -- `VesselCategory::precedence`
@@ -42,6 +43,10 @@ situation own target contact visibility = record { own = own; target = target; c
 
 unfoldable pub with_wind_from : Situation → Direction → Situation
 with_wind_from s from = record { own = s.own; target = s.target; contact = s.contact; visibility = s.visibility; wind_from = Some from }
+
+-- the situation with a contact
+abbrev pub with_contact : Circumstances → Contact → Party → Situation
+with_contact c contact target = record { own = c.own; target = target; contact = contact; visibility = c.visibility; wind_from = c.wind_from }
 
 -- `ColregsConfig::STANDARD`: 22.5 and 6 degrees
 abbrev pub standard : ColregsConfig

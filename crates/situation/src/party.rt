@@ -47,6 +47,29 @@ pub struct Situation {
     pub wind_from: Option<Direction>,
 }
 
+// What the rulings on all contacts share: own craft, the visibility, and where the wind comes from if that is known.
+#[derive(Clone, Copy)]
+pub struct Circumstances {
+    pub own: Party,
+    pub visibility: Visibility,
+    pub wind_from: Option<Direction>,
+}
+
+impl Circumstances {
+    // The situation with a contact.
+    pub fn with(self, contact: Contact, target: Party) -> Situation
+        ensures { result ≡ Spec.with_contact self contact target }
+    {
+        Situation {
+            own: self.own,
+            target,
+            contact,
+            visibility: self.visibility,
+            wind_from: self.wind_from,
+        }
+    }
+}
+
 impl VesselCategory {
     // The rank of a category: of two, the lower one keeps out of the way. Written out: a derived order would rank sailing vessels by their tacks.
     pub fn precedence(self) -> u8

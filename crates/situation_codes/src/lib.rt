@@ -7,31 +7,7 @@
 ghost use Rattle.std.specs.Prelude.{◌≡◌};
 ghost use Rattle.situation_codes.specs.Situations as Spec;
 
-use motion::units::Direction;
-use situation::party::{Party, Situation, Visibility};
-
-// The situation in which the two meet, before the wind is said.
-#[tactic(auto, unfolding(crate::specs::Situations::meeting))]
-fn meeting(own: Party, target: Party, bearing: f64, range: f64, code: u32) -> Situation
-    ensures { result ≡ Spec.meeting own target bearing range code }
-{
-    Situation::new(
-        own,
-        target,
-        words::contact(bearing, range),
-        Visibility::from(code),
-    )
-}
-
-#[tactic(auto, unfolding(crate::specs::Situations::with_wind))]
-fn with_wind(s: Situation, known: u32, from: f64) -> Situation
-    ensures { result ≡ Spec.with_wind s known from }
-{
-    if known == 0 {
-        return s;
-    }
-    s.with_wind_from(Direction(from))
-}
+use situation::party::{Circumstances, Situation, Visibility};
 
 // The situation of two parties, the contact's bearing and range, and the wind. Angles are in degrees, speeds in knots, the range in
 // nautical miles.
@@ -50,11 +26,11 @@ pub fn situation(
 ) -> Situation
     ensures { result ≡ Spec.situation codes oc os oh bearing range tc ts th wind }
 {
-    let own = codes::party(codes % 8, codes / 128 % 2, oc, os, oh);
+    let around = Circumstances {
+        own: codes::party(codes % 8, codes / 128 % 2, oc, os, oh),
+        visibility: Visibility::from(codes / 64 % 2),
+        wind_from: codes::perhaps(codes / 512 % 2, wind),
+    };
     let target = codes::party(codes / 8 % 8, codes / 256 % 2, tc, ts, th);
-    with_wind(
-        meeting(own, target, bearing, range, codes / 64 % 2),
-        codes / 512 % 2,
-        wind,
-    )
+    around.with(words::contact(bearing, range), target)
 }

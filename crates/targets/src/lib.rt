@@ -6,10 +6,11 @@ ghost use Rattle.targets.specs.Picture as Spec;
 
 use assessment::assess::CollisionAssessment;
 use risk::CollisionRisk;
+use std::cmp::Ordering;
 use time::Duration;
 
 // An assessment, and the number by which its target is known.
-#[derive(Clone, Copy)]
+#[derive(Clone, Copy, Default)]
 pub struct TargetAssessment {
     pub target: u32,
     pub assessment: CollisionAssessment,
@@ -19,28 +20,19 @@ pub struct TargetAssessment {
 fn time_of(p: Option<Duration>) -> Duration
     ensures { result ≡ Spec.time_of p }
 {
-    match p {
-        None => Duration {
-            secs: 18446744073709551615,
-            nanos: 999999999,
-        },
-        Some(d) => d,
-    }
+    p.unwrap_or(Duration::MAX)
 }
 
 // Whether one is more dangerous than another: a higher risk, or the same and less time.
+#[tactic(auto, unfolding(crate::specs::Picture::outranks, time::specs::Clock::is_before))]
 fn outranks(a: CollisionAssessment, b: CollisionAssessment) -> bool
     ensures { result ≡ Spec.outranks a b }
 {
-    let first = a.risk();
-    let second = b.risk();
-    let rank = first.rank();
-    let other = second.rank();
-    if rank == other {
-        let time = time_of(a.tcpa());
-        return time.is_before(time_of(b.tcpa()));
+    match a.risk().cmp(&b.risk()) {
+        Ordering::Less => false,
+        Ordering::Equal => time_of(a.tcpa()) < time_of(b.tcpa()),
+        Ordering::Greater => true,
     }
-    other < rank
 }
 
 // The more dangerous of the best so far and the next one, the next on equality.
@@ -48,42 +40,15 @@ pub fn keep(best: Option<TargetAssessment>, e: TargetAssessment) -> Option<Targe
     ensures { result ≡ Spec.keep best e }
 {
     match best {
-        None => Some(e),
-        Some(b) => {
-            let held = b.assessment;
-            let next = e.assessment;
-            if outranks(held, next) {
-                return Some(b);
-            }
-            Some(e)
-        }
-    }
-}
-
-// What was found so far, else the next one where it has the number.
-pub fn or_this(
-    found: Option<TargetAssessment>,
-    target: u32,
-    e: TargetAssessment,
-) -> Option<TargetAssessment>
-    ensures { result ≡ Spec.or_this target found e }
-{
-    match found {
-        Some(t) => Some(t),
-        None => {
-            if e.target == target {
-                return Some(e);
-            }
-            None
-        }
+        Some(b) if outranks(b.assessment, e.assessment) => Some(b),
+        _ => Some(e),
     }
 }
 
 // Whether a target's risk is at least the given one.
+#[tactic(auto, unfolding(crate::specs::Picture::is_at_least))]
 pub fn is_at_least(e: TargetAssessment, least: CollisionRisk) -> bool
     ensures { result ≡ Spec.is_at_least least e }
 {
-    let assessment = e.assessment;
-    let risk = assessment.risk();
-    least.rank() <= risk.rank()
+    least <= e.assessment.risk()
 }

@@ -1,11 +1,12 @@
 -- Appending piece by piece is appending the whole: what is cut of the pieces is cut of the whole. So a line is one piece, and that it fits is shown once.
 use mathlib.Core.Path.{◌≡◌, refl, sym, ap, ◌∙◌}
 use mathlib.Core.List.{List, [], ◌∷◌, ◌++◌, append_assoc, append-nil}
-use Prim.Native.Nat.{ℕ, zero, suc, ◌+◌, ◌≤◌, ◌<◌}
-use native.Mathlib.Numerals.{add-one}
+use Prim.Native.Nat.{ℕ, zero, suc, ◌+◌, ◌≤◌, min}
 use native.Mathlib.Omega.{arith}
-use lib.ListN.{length, take, drop, get_or, set, length-set, length-take, length-append, drop_of_length-le}
-use lib.Seq.{drop-cons, take-suc-set, take_all, take-append-le}
+use lib.ListN.{length, take, length-take, length-append}
+use lib.Seq.{take_all}
+use Rattle.std.proofs.lemmas.List.{take_min}
+use Rattle.std.proofs.Math.Seq.{take-append-add}
 use Rattle.text.specs.Text.{room, appended}
 
 cut : (n : ℕ) (x b : List ℕ) → take n (take n x ++ b) ≡ take n (x ++ b)
@@ -31,37 +32,13 @@ pub within_room : (t s : List ℕ) → length (appended t s) ≤ room
 unfolding appended
 within_room t s = omega (arith, length-take room (t ++ s))
 
+-- where k more bytes fit, as many of s are appended as there are, and k at most
+pub fitting : (t s : List ℕ) (k n : ℕ) → k + length t ≡ room → n ≡ min k (length s) → t ++ take n s ≡ appended t s
+unfolding appended
+fitting t s k n h e =
+    let r : room ≡ length t + k = omega arith in
+    ap (λ n. t ++ take n s) e ∙ ap (λ l. t ++ l) (take_min k s) ∙ sym (take-append-add t s k) ∙ ap (λ n. take n (t ++ s)) (sym r)
+
 pub nothing_appended : (t : List ℕ) → length t ≤ room → appended t [] ≡ t
 unfolding appended
 nothing_appended t h = rw append-nil (take_all room t h)
-
--- `put`: n bytes are there, and s from i on is still to come
-pub record Copying (t s bytes : List ℕ) (n i : ℕ) : Type 0 where
-  pub full : length bytes ≡ room
-  pub inside : i ≤ length s
-  pub so_far : appended (take n bytes) (drop i s) ≡ appended t s
-
-module _ {t s bytes : List ℕ} {n i : ℕ} (v : Copying t s bytes n i) where
-  pub copied_one : n < room → i < length s → Copying t s (set bytes n (get_or s i 0)) (n + 1) (i + 1)
-  unfolding appended
-  copied_one h k =
-      let g : n < length bytes = omega (arith, v.full) in
-      record {
-        full = length-set bytes n (get_or s i 0) ∙ v.full;
-        inside = omega arith;
-        so_far = rw (add-one n, add-one i, take-suc-set bytes n (get_or s i 0) g, append_assoc) (rw (drop-cons s i 0 k) at v.so_far);
-      }
-
-  pub copied_all : length s ≤ i → take n bytes ≡ appended t s
-  unfolding appended
-  copied_all h =
-      let g : length (take n bytes) ≤ room = omega (arith, length-take n bytes, v.full) in
-      sym (take_all room (take n bytes) g) ∙ rw (drop_of_length-le s h, append-nil) at v.so_far
-
-  pub no_room : room ≤ n → take n bytes ≡ appended t s
-  unfolding appended
-  no_room h =
-      let a : take n bytes ≡ bytes = take_all n bytes (omega (arith, v.full)) in
-      let g : room ≤ length bytes = omega (arith, v.full) in
-      let k : length bytes ≤ room = omega (arith, v.full) in
-      a ∙ sym (take_all room bytes k) ∙ sym (take-append-le room bytes (drop i s) g) ∙ (rw a at v.so_far)

@@ -1,5 +1,5 @@
 -- What the functions' proofs share, and the laws of appending for the crates above.
 pub mod Appending
 pub mod Digits
-pub mod Pieces
+pub mod Joined
 pub mod Value

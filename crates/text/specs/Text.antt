@@ -2,15 +2,10 @@
 use Rattle.std.specs.Prelude.{List, [], ◌∷◌, ◌++◌, ℕ, take}
 use Prim.Native.Char.{code}
 use Prim.Native.String.{String, [] as nothing, ◌∷◌ as ◌before◌}
-use Rattle.text.specs.declared.Text.{Text}
 
 -- `ROOM`
 abbrev pub room : ℕ
 room = 8192
-
--- what a text says
-abbrev pub shown : Text → List ℕ
-shown t = take t.len t.bytes
 
 -- t with s after it, cut at the room
 unfoldable pub appended : List ℕ → List ℕ → List ℕ

@@ -2,18 +2,41 @@
 // every piece; whoever shows that a text fits has it whole.
 #![tactic(auto)]
 
-ghost use Rattle.std.specs.Prelude.{◌≡◌, [], ◌∷◌, length};
-ghost use Rattle.text.specs.Text.{shown, appended};
+ghost use Rattle.std.specs.Prelude.{◌≡◌, ◌≤◌, [], ◌∷◌, length};
+ghost use Rattle.text.specs.Text.{room, appended};
+ghost use Rattle.std.specs.Prelude.{ℕ, List};
+ghost use mathlib.Core.List.{flat_map};
 ghost use Rattle.text.specs.Decimal.{last_digit, decimal_of, three_decimals};
+
+use arrayvec::ArrayVec;
+use std::marker::Model;
 
 // Enough for the lines on 57 contacts and the answer to them.
 pub const ROOM: usize = 8192;
 
-// The first `len` bytes.
-#[derive(Clone, Copy)]
+// A contract sees its bytes.
+#[derive(Drop)]
 pub struct Text {
-    pub bytes: [u8; ROOM],
-    pub len: usize,
+    bytes: ArrayVec<u8, ROOM>,
+}
+
+impl Model for Text {
+    ghost use Rattle.std.specs.Prelude.{List, ℕ};
+
+    ghost Value = { List ℕ };
+
+    ghost view = { λ t. t.bytes.items };
+}
+
+// How items are put at the end of a text.
+pub trait Pieces<T> {
+    ghost use Rattle.std.specs.Prelude.{List, ℕ};
+
+    // The bytes of an item.
+    ghost piece: { Self → T → List ℕ };
+
+    fn put(&self, t: &mut Text, item: T)
+        ensures { t.new ≡ appended t.old (piece self.now item) };
 }
 
 // The last decimal digit of n.
@@ -26,64 +49,61 @@ fn last_digit(n: u64) -> u8
 impl Text {
     // No text yet.
     pub fn blank() -> Text
-        ensures { shown result ≡ [] }
+        ensures { result ≡ [] }
     {
         Text {
-            bytes: [0; ROOM],
-            len: 0,
+            bytes: ArrayVec::new(),
         }
     }
 
-    // How many bytes it has.
-    pub fn size(self) -> usize
-        ensures { result ≡ length (shown self) }
+    // Its bytes.
+    pub fn as_bytes(&self) -> &[u8]
+        ensures value { result.now ≡ self.now }
+        ensures fits { length result.now ≤ room }
     {
-        if self.len < ROOM {
-            return self.len;
-        }
-        ROOM
+        self.bytes.as_slice()
     }
 
-    // The bytes of s at the end.
-    pub fn put(self, s: &[u8]) -> Text
-        ensures { shown result ≡ appended (shown self) s.now }
+    // The bytes of s at the end. The words are byte strings: document 01 fixes each one's bytes, and by `Display` contracts would follow formatting too.
+    pub fn put(&mut self, s: &[u8])
+        ensures { self.new ≡ appended self.old s.now }
     {
-        let mut t = self;
-        let mut n = t.len;
-        for b in s {
-            if n >= ROOM {
-                break;
-            }
-            t.bytes[n] = *b;
-            n += 1;
-        }
-        t.len = n;
-        t
+        let n = self.bytes.remaining_capacity().min(s.len());
+        let _ = self.bytes.try_extend_from_slice(&s[..n]);
     }
 
     // One byte at the end.
-    pub fn byte(self, b: u8) -> Text
-        ensures { shown result ≡ appended (shown self) (b ∷ []) }
+    pub fn byte(&mut self, b: u8)
+        ensures { self.new ≡ appended self.old (b ∷ []) }
     {
-        let one = [b];
-        self.put(&one)
+        self.put(&[b]);
     }
 
     // A whole number at the end, in decimal.
-    pub fn number(self, n: u64) -> Text
-        ensures { shown result ≡ appended (shown self) (decimal_of n) }
+    pub fn number(&mut self, n: u64)
+        ensures { self.new ≡ appended self.old (decimal_of n) }
     {
         let mut digits = [0u8; 20];
         let k = io::decimal(n, &mut digits);
-        self.put(&digits[..k])
+        self.put(&digits[..k]);
     }
 
     // So many thousandths at the end, with three decimals.
-    pub fn thousandths(self, n: u64) -> Text
-        ensures { shown result ≡ appended (shown self) (three_decimals n) }
+    pub fn thousandths(&mut self, n: u64)
+        ensures { self.new ≡ appended self.old (three_decimals n) }
     {
-        let whole = self.number(n / 1000);
-        let decimals = [b'.', last_digit(n / 100), last_digit(n / 10), last_digit(n)];
-        whole.put(&decimals)
+        self.number(n / 1000);
+        self.put(&[b'.', last_digit(n / 100), last_digit(n / 10), last_digit(n)]);
+    }
+
+    // The bytes of each item, in turn.
+    pub fn each<T: Copy, P: Pieces<T>>(&mut self, items: &[T], pieces: &P)
+        ensures { self.new ≡ appended self.old (flat_map (P.piece pieces.now) items.now) }
+    {
+        // It fits in its room, so that where there is no item nothing is cut of it.
+        let _ = self.as_bytes();
+        for x in items {
+            pieces.put(self, *x);
+        }
     }
 }

@@ -1,4 +1,3 @@
 -- Laws on times.
-pub mod Branches
-pub mod Nanoseconds
+pub mod Order
 pub mod Seconds

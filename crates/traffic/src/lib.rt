@@ -23,6 +23,7 @@ pub struct Entry {
 }
 
 // The target of an entry, as the search sees it.
+#[tactic(auto, unfolding(crate::specs::Traffic::target_of))]
 pub fn target_of(e: Entry) -> Target
     ensures { result ≡ Spec.target_of e }
 {

@@ -1,4 +1,4 @@
--- What the code of the trials owes, and the list by its entries: trial k for each k up to the last, and no other.
+-- The number of trials, and the list by its entries: trial k for each k up to the last, and no other.
 use mathlib.Core.Path.{◌≡◌, refl, sym, ap, ◌∙◌, subst}
 use mathlib.Core.Logic.{⊎_elim}
 use mathlib.Core.Bool.{Bool, true, false, cond, ◌&&◌}
@@ -10,30 +10,17 @@ use native.Mathlib.Numerals.{add-one}
 use native.Mathlib.Omega.{arith}
 use lib.ListN.{length, drop}
 use lib.Dec.{T}
-use lib.IntN.{pos}
 use lib.Pow.{pow_pos}
-use lib.Ieee.{Float, binary64, lt, le, of_bits, of_int, fits, to_unsigned}
+use lib.Ieee.{Float, binary64, lt, le, of_bits, fits, to_unsigned}
 use lib.Ieee.Fits.{sub-fits}
 use Rattle.laws.specs.Ascending.{Ascending}
-use Rattle.laws.specs.Ops.{◌⊕◌, ◌⊖◌}
+use Rattle.laws.specs.Ops.{◌⊖◌}
 use Rattle.laws.specs.Units.{units_of}
 use Rattle.laws.proofs.Amount.{amount_of, whole_part}
 use Rattle.laws.proofs.Bools.{holds}
 use Rattle.laws.proofs.Size.{at_most-units}
 use Rattle.math.specs.Cast.{to_usize, billion}
 use Rattle.trials.specs.Trials.{last, trial, trials_from, trials, IsTrialList}
-
-module _ (least most : Float) (k : ℕ) (x : Float) (is : x ≡ of_int binary64 (pos k)) where
-  at : (b : Bool) → lt most (least ⊕ x) ≡ b → lt most (least ⊕ of_int binary64 (pos k)) ≡ b
-  at b h = sym (ap (λ x. lt most (least ⊕ x)) is) ∙ h
-
-  pub cut : lt most (least ⊕ x) ≡ true → most ≡ trial least most k
-  unfolding trial
-  cut h = rw (at true h) refl
-
-  pub kept : lt most (least ⊕ x) ≡ false → least ⊕ x ≡ trial least most k
-  unfolding trial
-  kept h = rw (at false h) (ap (λ x. least ⊕ x) is)
 
 -- ---- the number of trials
 -- a whole number of degrees is at most 10^9, whatever the limits are

@@ -5,27 +5,39 @@
 ghost use Rattle.std.specs.Prelude.{◌≡◌, length};
 ghost use Rattle.trials.specs.Trials as Spec;
 
-// The last trial's k.
-pub fn last(least: f64, most: f64) -> usize
-    ensures { result ≡ Spec.last least most }
-{
-    math::to_usize(most - least)
+// The trials from the least alteration to the most.
+#[derive(Clone, Copy)]
+pub struct TrialList {
+    pub least: f64,
+    pub most: f64,
 }
 
-// How many trials there are.
-pub fn count(least: f64, most: f64) -> usize
-    ensures { result ≡ length (Spec.trials least most) }
-{
-    last(least, most) + 1
-}
-
-// Trial k.
-pub fn trial(least: f64, most: f64, k: usize) -> f64
-    ensures { result ≡ Spec.trial least most k }
-{
-    let sum = least + math::count_to_f64(k);
-    if most < sum {
-        return most;
+impl TrialList {
+    // The last trial's k.
+    #[tactic(auto, unfolding(crate::specs::Trials::last))]
+    pub fn last(self) -> usize
+        ensures { result ≡ Spec.last self.least self.most }
+    {
+        math::to_usize(self.most - self.least)
     }
-    sum
+
+    // How many trials there are.
+    #[tactic(auto, using(crate::proofs::Listed::counted, crate::proofs::Listed::room))]
+    pub fn count(self) -> usize
+        ensures { result ≡ length (Spec.trials self.least self.most) }
+    {
+        self.last() + 1
+    }
+
+    // Trial k.
+    #[tactic(auto, unfolding(crate::specs::Trials::trial))]
+    pub fn trial(self, k: usize) -> f64
+        ensures { result ≡ Spec.trial self.least self.most k }
+    {
+        let sum = self.least + math::count_to_f64(k);
+        if self.most < sum {
+            return self.most;
+        }
+        sum
+    }
 }

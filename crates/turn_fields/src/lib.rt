@@ -1,8 +1,8 @@
 // The fields of the line on a turn that say its side, the passing distance and the contact whose it is.
-#![tactic(auto)]
+#![tactic(auto, using(text::proofs::Appending::appended_twice), unfolding(text::specs::Text::bytes))]
 
 ghost use Rattle.std.specs.Prelude.{◌≡◌, [], ◌∷◌};
-ghost use Rattle.text.specs.Text.{shown, appended};
+ghost use Rattle.text.specs.Text.{appended};
 ghost use Rattle.text.specs.Line.{spaced, line};
 ghost use Rattle.turn_fields.specs.Fields as Spec;
 
@@ -11,8 +11,8 @@ use motion::units::Distance;
 use text::Text;
 
 // The side of the turn.
-pub fn side_field(t: Text, side: Side) -> Text
-    ensures { shown result ≡ appended (shown t) (spaced (Spec.side_field side)) }
+pub fn side_field(t: &mut Text, side: Side)
+    ensures { t.new ≡ appended t.old (spaced (Spec.side_field side)) }
 {
     match side {
         Side::Starboard => t.put(b"S "),
@@ -21,14 +21,15 @@ pub fn side_field(t: Text, side: Side) -> Text
 }
 
 // The least passing distance and the id of the contact whose it is, to the line's end.
-pub fn passing_fields(t: Text, limiting: Option<usize>, passing: Distance, id: u32) -> Text
-    ensures { shown result ≡ appended (shown t) (line (Spec.passing_field limiting passing ∷ Spec.limiting_field limiting id ∷ [])) }
+pub fn passing_fields(t: &mut Text, limiting: Option<usize>, passing: Distance, id: u32)
+    ensures { t.new ≡ appended t.old (line (Spec.passing_field limiting passing ∷ Spec.limiting_field limiting id ∷ [])) }
 {
     match limiting {
         None => t.put(b"FREE NONE\n"),
-        Some(place) => {
-            let t = number_fields::quantity(t, passing.0);
-            t.number(id as u64).byte(b'\n')
+        Some(_) => {
+            number_fields::quantity(t, passing.0);
+            t.number(id as u64);
+            t.byte(b'\n');
         }
     }
 }

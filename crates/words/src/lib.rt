@@ -44,8 +44,7 @@ pub fn refused<const N: usize>(why: Refusal) -> [u64; N]
 }
 
 // ---- the arguments
-// The exports make own craft, the contact and the target one by one: what they call takes them so, and a struct of the three would be
-// taken apart again.
+// Own craft, the contact and the target are made one by one: what the exports call has the Rust's signatures, which take them so.
 
 // A vessel with a course in degrees and a speed in knots.
 pub fn vessel(course: f64, speed: f64) -> Vessel

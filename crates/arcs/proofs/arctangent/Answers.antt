@@ -3,7 +3,7 @@ use Rattle.grid.specs.Grid.{last_step}
 use Prim.Native.Nat.{◌≤◌}
 use mathlib.Core.Path.{sym, subst}
 use Rattle.arcs.specs.Goal.{not_above_named as named}
-use Rattle.series.proofs.Halves.{above}
+use Rattle.series.proofs.Written.{above}
 use Rattle.arcs.proofs.arctangent.Goals as goal
 
 pub returns-then-u : goal.returns-then-u

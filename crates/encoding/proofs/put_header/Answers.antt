@@ -4,7 +4,16 @@ use Rattle.sheet_words.specs.Word.{number}
 use Rattle.encoding.specs.Encode.{bytes_of, header_words}
 use Rattle.encoding.proofs.put_header.Goals as goal
 
-pub returns : goal.returns
+pub returns-in-Some : goal.returns-in-Some
 unfolding number bytes_of flat_map header_words
-returns c =
-    then _ _ _ c.put_word.ensures (then _ _ _ c.put_word-2.ensures (then _ _ _ c.put_word-t.ensures (then _ _ _ c.put_word-3.ensures (then _ _ _ c.put_word-4.ensures (then _ _ _ c.put_word-t-2.ensures (then _ _ _ c.put_word-5.ensures (then _ _ _ c.put_word-6.ensures (then _ _ _ c.put_word-t-3.ensures c.put_wind.ensures))))))))
+returns-in-Some c =
+    rw c.in-Some.is
+    (then _ _ _ c.put_word.ensures
+    (then _ _ _ c.put_word-2.ensures
+    (then _ _ _ c.put_word-3.ensures
+    (then _ _ _ c.put_word-4.ensures
+    (then _ _ _ c.put_word-5.ensures
+    (then _ _ _ c.put_word-6.ensures
+    (then _ _ _ c.put_word-7.ensures
+    (then _ _ _ c.put_word-8.ensures
+    (then _ _ _ c.put_word-9.ensures c.put_word-in-Some.ensures)))))))))

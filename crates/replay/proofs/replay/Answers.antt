@@ -1,6 +1,5 @@
 use Rattle.std.proofs.Common.{refl, [], ◌∷◌, ◌++◌}
 use Rattle.std.proofs.lemmas.Fn.{FoldsTo-push}
-use Rattle.std.specs.Fn.{FnReturnsAt}
 use Rattle.replay.specs.Record.{Answered}
 use Rattle.replay.proofs.replay.Goals as goal
 
@@ -13,7 +12,7 @@ returns-then-not-branch g c = (_, c.loop.invariant.0, rw (← c.in_ok-next.ensur
 pub loop-preserved : goal.loop-preserved
 loop-preserved g c = (
   c.loop.invariant.0 ++ (c.next.new.room ∷ []),
-  FoldsTo-push (Answered (FnReturnsAt g.F.Fn c.args.answer) _) _ c.loop.invariant.0 _ c.next.new.room _ c.loop.invariant.1
+  FoldsTo-push (Answered (g.F.Replayed.Answers c.args.f.now) _) _ c.loop.invariant.0 _ c.next.new.room _ c.loop.invariant.1
       (rw c.loop.auto.room at c.in_ok-next.ensures.answered c.if-not-branch.false),
 )
 

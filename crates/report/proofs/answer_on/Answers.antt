@@ -1,15 +1,15 @@
 use mathlib.Core.Path.{◌≡◌, ap, ◌∙◌}
 use mathlib.Core.List.{map}
-use lib.Seq.{take_all}
-use Rattle.room.specs.Room.{max_contacts}
-use Rattle.sheet_values.specs.Values.{entry_of}
+use Rattle.situation.specs.declared.party.Circumstances.{Circumstances}
+use Rattle.sheet_values.specs.Values.{entry_of, circumstances_of}
 use Rattle.report.proofs.Answer.{answered}
 use Rattle.report.proofs.answer_on.Goals as goal
 
 -- the traffic has all rows
-listed : (c : goal.After-ruled_search) → c.deref.result.now ≡ map entry_of c.args.rows.now
-listed c = c.deref.ensures.0 ∙ c.traffic_of-t.ensures ∙ ap (map entry_of) (take_all max_contacts c.args.rows.now c.requires)
+listed : (c : goal.After-ruled_search) → c.deref.result.now ≡ map entry_of c.args.rows.now.items
+listed c = c.deref.ensures.0 ∙ c.traffic_of-t.ensures
 
 pub returns : goal.returns
+unfolding circumstances_of
 returns c =
-    answered _ _ _ _ _ _ _ _ c.own_of-own.ensures (listed c) c.from-visibility.ensures c.wind_from-wind.ensures c.scaled.ensures c.ruled_search.ensures.0
+    answered _ _ _ _ _ _ _ _ (ap (λ (a : Circumstances). a.own) c.circumstances_of-around.ensures) (listed c) (ap (λ (a : Circumstances). a.visibility) c.circumstances_of-around.ensures) (ap (λ (a : Circumstances). a.wind_from) c.circumstances_of-around.ensures) c.scaled.ensures c.ruled_search.ensures.0

@@ -1,17 +1,16 @@
-use mathlib.Core.Path.{refl}
+use Rattle.sheet_words.specs.Word.{words}
+use Rattle.sheet_record.proofs.Filling.{few-rows}
 use Rattle.report.specs.Report.{report}
-use Rattle.report.proofs.Whole.{alone}
+use Rattle.report.proofs.Whole.{lines_fit, refusal_fits, alone}
 use Rattle.report.proofs.report.Goals as goal
-
-pub lines_on-requires : goal.lines_on-requires
-lines_on-requires c = c.deref.ensures.1
 
 pub returns-in-Ok : goal.returns-in-Ok
 unfolding report
 returns-in-Ok c =
-    rw (← c.check_sheet-verdict.ensures, c.in-Ok.is, c.lines_on.ensures, c.header_of-h.ensures, c.deref.ensures.0, c.rows_of-rows.ensures) refl
+    rw (← c.check_sheet.ensures, c.in-Ok.is, ← c.header_of-h.ensures, ← c.rows_of-rows.ensures)
+    (alone _ _ _ (lines_fit _ _ (rw (← c.rows_of-rows.ensures) at (few-rows (words c.args.bytes.now)))) c.blank-t.ensures c.lines_on.ensures)
 
 pub returns-in-Err : goal.returns-in-Err
 unfolding report
 returns-in-Err c =
-    rw (← c.check_sheet-verdict.ensures, c.in-Err.is) (alone _ _ _ c.blank.ensures c.refused_line.ensures)
+    rw (← c.check_sheet.ensures, c.in-Err.is) (alone _ _ _ (refusal_fits _) c.blank-t.ensures c.refused_line.ensures)

@@ -1,7 +1,6 @@
 use mathlib.Core.Path.{ap, ◌∙◌}
-use Prim.Native.Nat.{min}
 use native.Mathlib.Omega.{arith}
-use lib.ListN.{take, length}
+use lib.ListN.{take}
 use Rattle.room.specs.Room.{max_contacts}
 use Rattle.std.proofs.lemmas.List.{take_min}
 use Rattle.room.proofs.first.Goals as goal

@@ -12,20 +12,20 @@ returns-in_err-check_count-clause-checked c = refused_by (count_checks (length c
 
 pub returns-in_err-check_party-clause-checked : goal.returns-in_err-check_party-clause-checked
 unfolding ruled_checks
-returns-in_err-check_party-clause-checked c = accepted (count_checks (length c.args.t.now)) _ _ _ c.in_ok-check_count.ensures (refused_by (party_checks c.args.own) _ _ _ _ c.from_residual-in_err-check_party.ensures.1 c.in_err-check_party.ensures)
+returns-in_err-check_party-clause-checked c = accepted (count_checks (length c.args.t.now)) _ _ _ c.in_ok-check_count.ensures (refused_by (party_checks c.args.around.own) _ _ _ _ c.from_residual-in_err-check_party.ensures.1 c.in_err-check_party.ensures)
 
 pub returns-in_err-check_contacts-clause-checked : goal.returns-in_err-check_contacts-clause-checked
 unfolding ruled_checks
-returns-in_err-check_contacts-clause-checked c = accepted (count_checks (length c.args.t.now)) _ _ _ c.in_ok-check_count.ensures (accepted (party_checks c.args.own) _ _ _ c.in_ok-check_party.ensures (refused_by (contacts_checks c.args.t.now) _ _ _ _ c.from_residual-in_err-check_contacts.ensures.1 c.in_err-check_contacts.ensures.checked))
+returns-in_err-check_contacts-clause-checked c = accepted (count_checks (length c.args.t.now)) _ _ _ c.in_ok-check_count.ensures (accepted (party_checks c.args.around.own) _ _ _ c.in_ok-check_party.ensures (refused_by (contacts_checks c.args.t.now) _ _ _ _ c.from_residual-in_err-check_contacts.ensures.1 c.in_err-check_contacts.ensures.checked))
 
 pub returns-in_err-check_perhaps-clause-checked : goal.returns-in_err-check_perhaps-clause-checked
 unfolding ruled_checks
-returns-in_err-check_perhaps-clause-checked c = accepted (count_checks (length c.args.t.now)) _ _ _ c.in_ok-check_count.ensures (accepted (party_checks c.args.own) _ _ _ c.in_ok-check_party.ensures (accepted (contacts_checks c.args.t.now) _ _ _ c.in_ok-check_contacts.ensures.checked (refused_by (perhaps_checks c.args.wind) _ _ _ _ c.from_residual-in_err-check_perhaps.ensures.1 c.in_err-check_perhaps.ensures)))
+returns-in_err-check_perhaps-clause-checked c = accepted (count_checks (length c.args.t.now)) _ _ _ c.in_ok-check_count.ensures (accepted (party_checks c.args.around.own) _ _ _ c.in_ok-check_party.ensures (accepted (contacts_checks c.args.t.now) _ _ _ c.in_ok-check_contacts.ensures.checked (refused_by (perhaps_checks c.args.around.wind_from) _ _ _ _ c.from_residual-in_err-check_perhaps.ensures.1 c.in_err-check_perhaps.ensures)))
 
 pub returns-in_err-check_distance-clause-checked : goal.returns-in_err-check_distance-clause-checked
 unfolding ruled_checks
-returns-in_err-check_distance-clause-checked c = accepted (count_checks (length c.args.t.now)) _ _ _ c.in_ok-check_count.ensures (accepted (party_checks c.args.own) _ _ _ c.in_ok-check_party.ensures (accepted (contacts_checks c.args.t.now) _ _ _ c.in_ok-check_contacts.ensures.checked (accepted (perhaps_checks c.args.wind) _ _ _ c.in_ok-check_perhaps.ensures (refused_by (distance_checks c.args.desired) _ _ _ _ c.from_residual-in_err-check_distance.ensures.1 c.in_err-check_distance.ensures))))
+returns-in_err-check_distance-clause-checked c = accepted (count_checks (length c.args.t.now)) _ _ _ c.in_ok-check_count.ensures (accepted (party_checks c.args.around.own) _ _ _ c.in_ok-check_party.ensures (accepted (contacts_checks c.args.t.now) _ _ _ c.in_ok-check_contacts.ensures.checked (accepted (perhaps_checks c.args.around.wind_from) _ _ _ c.in_ok-check_perhaps.ensures (refused_by (distance_checks c.args.desired) _ _ _ _ c.from_residual-in_err-check_distance.ensures.1 c.in_err-check_distance.ensures))))
 
 pub returns-clause-checked : goal.returns-clause-checked
 unfolding ruled_checks
-returns-clause-checked c = accepted (count_checks (length c.args.t.now)) _ _ _ c.in_ok-check_count.ensures (accepted (party_checks c.args.own) _ _ _ c.in_ok-check_party.ensures (accepted (contacts_checks c.args.t.now) _ _ _ c.in_ok-check_contacts.ensures.checked (accepted (perhaps_checks c.args.wind) _ _ _ c.in_ok-check_perhaps.ensures (accepted (distance_checks c.args.desired) _ _ _ c.in_ok-check_distance.ensures c.check_constraints.ensures))))
+returns-clause-checked c = accepted (count_checks (length c.args.t.now)) _ _ _ c.in_ok-check_count.ensures (accepted (party_checks c.args.around.own) _ _ _ c.in_ok-check_party.ensures (accepted (contacts_checks c.args.t.now) _ _ _ c.in_ok-check_contacts.ensures.checked (accepted (perhaps_checks c.args.around.wind_from) _ _ _ c.in_ok-check_perhaps.ensures (accepted (distance_checks c.args.desired) _ _ _ c.in_ok-check_distance.ensures c.check_constraints.ensures))))

@@ -1,24 +1,45 @@
-use mathlib.Core.Path.{refl, sym}
+use mathlib.Core.Path.{◌≡◌, refl, sym, ap, ◌∙◌}
+use mathlib.Core.List.{map}
+use lib.Seq.{take_all}
+use Rattle.room.specs.Room.{max_contacts}
+use Rattle.clearing.specs.Clearing.{moving}
+use Rattle.traffic.specs.Traffic.{target_of, targets}
 use Rattle.ruled_laws.specs.Held.{HeldArguments}
 use Rattle.ruled_laws.proofs.Accepted as Accepted
 use Rattle.arguments.proofs.Checks.{handed_on}
 use Rattle.ruled.proofs.Held.{is_held}
-use Rattle.ruled.proofs.Steps.{accepted, refused}
+use Rattle.ruled.proofs.Steps.{no_side, searched, accepted, refused}
 use Rattle.ruled.proofs.ruled_search.Goals as goal
 
-held : (c : goal.After-search) → HeldArguments c.args.own c.args.t.now c.args.constraints
+-- the scene has all contacts
+scene_is : (c : goal.After-chosen_answer) → c.scene_of-scene.result.items ≡ map moving (map target_of c.args.t.now)
+unfolding targets
+scene_is c = c.scene_of-scene.ensures ∙ ap (λ es. map moving (map target_of es)) (take_all max_contacts c.args.t.now (Accepted.few _ _ _ _ _ _ (sym c.in_ok-check_arguments.ensures.checked)))
+
+held : (c : goal.After-chosen_answer) → HeldArguments c.args.around.own c.args.t.now c.args.constraints
 held c = record {
-  vessel = record { course = is_held c.well_formed.0.1.1.0.1.1.0.1.1.0.1; speed = is_held c.well_formed.0.1.1.0.1.1.1.0.1.1.0.1 };
+  vessel = record { course = is_held c.well_formed.0.1.1.0.1.1.0.1.1.0.1.1.0.1; speed = is_held c.well_formed.0.1.1.0.1.1.0.1.1.1.0.1.1.0.1 };
   each = c.in_ok-check_arguments.ensures.held;
-  least = is_held c.well_formed.1.1.1.1.1.0.1.1.1.0.1.1.0.1;
-  most = is_held c.well_formed.1.1.1.1.1.0.1.1.1.1.0.1.1.0.1;
+  least = is_held c.well_formed.1.1.1.0.1.1.1.0.1.1.0.1;
+  most = is_held c.well_formed.1.1.1.0.1.1.1.1.0.1.1.0.1;
 }
 
-pub search-requires : goal.search-requires
-search-requires c = Accepted.few _ _ _ _ _ _ (sym c.in_ok-check_arguments.ensures.checked)
+pub returns-then-sides : goal.returns-then-sides
+returns-then-sides c = accepted _ _ _ _ _ _ _ (held c) _ c.in_ok-check_arguments.ensures.checked refl _
+    (searched _ _ _ _ _ _ _ c.shared_sides-sides.ensures c.if-sides.true _ _ _ _ _ (ap (λ a. a.0) c.least_alteration.ensures)
+    (ap (λ a. a.0) c.most_alteration.ensures) (c.deref.ensures.0 ∙ scene_is c)
+    (rw (c.new-search.ensures.own, c.new-search.ensures.floor, c.new-search.ensures.scene) at c.smallest.ensures) c.chosen_answer.ensures)
+
+held_2 : (c : goal.Else-sides) → HeldArguments c.args.around.own c.args.t.now c.args.constraints
+held_2 c = record {
+  vessel = record { course = is_held c.well_formed.0.1.1.0.1.1.0.1.1.0.1.1.0.1; speed = is_held c.well_formed.0.1.1.0.1.1.0.1.1.1.0.1.1.0.1 };
+  each = c.in_ok-check_arguments.ensures.held;
+  least = is_held c.well_formed.1.1.1.0.1.1.1.0.1.1.0.1;
+  most = is_held c.well_formed.1.1.1.0.1.1.1.1.0.1.1.0.1;
+}
 
 pub returns : goal.returns
-returns c = accepted _ _ _ _ _ _ _ (held c) _ c.in_ok-check_arguments.ensures.checked refl _ c.search.ensures
+returns c = accepted _ _ _ _ _ _ _ (held_2 c) _ c.in_ok-check_arguments.ensures.checked refl _ (no_side _ _ _ _ _ _ _ c.shared_sides-sides.ensures c.if-sides.false)
 
 pub returns-in_err-check_arguments : goal.returns-in_err-check_arguments
 returns-in_err-check_arguments c = rw (handed_on _ _ c.from_residual.ensures.1) (refused _ _ _ _ _ _ _ _ c.in_err-check_arguments.ensures.checked)

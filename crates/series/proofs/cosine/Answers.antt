@@ -1,5 +1,5 @@
 use native.Mathlib.Omega.{arith}
-use Rattle.series.proofs.Halves.{cosine_is, above}
+use Rattle.series.proofs.Written.{cosine_is, above}
 use Rattle.series.proofs.cosine.Goals as goal
 
 pub returns : goal.returns

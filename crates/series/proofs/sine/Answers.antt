@@ -1,5 +1,5 @@
 use native.Mathlib.Omega.{arith}
-use Rattle.series.proofs.Halves.{sine_is, above}
+use Rattle.series.proofs.Written.{sine_is, above}
 use Rattle.series.proofs.sine.Goals as goal
 
 pub returns : goal.returns

@@ -1,7 +1,5 @@
 use Rattle.std.specs.Prelude.{map}
 use mathlib.Core.Path.{ap, ◌∙◌}
-use lib.Seq.{take_all}
-use Rattle.room.specs.Room.{max_contacts}
 use Rattle.arguments.specs.Check.{checked}
 use Rattle.arguments.proofs.Checks.{handed_on, refused, accepted}
 use Rattle.sheet_values.specs.Values.{entry_of}
@@ -21,4 +19,4 @@ returns-in_err-check_codes c =
 pub returns : goal.returns
 returns c =
     readable_as _ c.header_of-h.result c.rows_of-rows.result.items _ c.in_ok-check_layout.ensures c.header_of-h.ensures c.rows_of-rows.ensures
-    (accepted (code_checks c.header_of-h.result c.rows_of-rows.result.items) (value_checks c.header_of-h.result (map entry_of c.rows_of-rows.result.items)) _ _ (rw c.deref.ensures.0 at c.in_ok-check_codes.ensures) (c.check_values.ensures ∙ ap (λ es. checked (value_checks c.header_of-h.result es)) (c.deref-3.ensures.0 ∙ c.traffic_of.ensures ∙ ap (map entry_of) (take_all max_contacts c.deref-2.result.now c.deref-2.ensures.1 ∙ c.deref-2.ensures.0))))
+    (accepted (code_checks c.header_of-h.result c.rows_of-rows.result.items) (value_checks c.header_of-h.result (map entry_of c.rows_of-rows.result.items)) _ _ (rw c.deref.ensures.0 at c.in_ok-check_codes.ensures) (c.check_values.ensures ∙ ap (λ es. checked (value_checks c.header_of-h.result es)) (c.deref-2.ensures.0 ∙ c.traffic_of.ensures)))

@@ -1,21 +1,17 @@
-use Rattle.std.specs.Prelude.{None, take}
-use mathlib.Core.Path.{refl, ap, ◌∙◌}
-use native.Mathlib.Omega.{arith}
+use mathlib.Core.Path.{◌≡◌, refl, sym, ap, ◌∙◌}
+use Rattle.std.specs.Prelude.{None}
+use Rattle.std.proofs.Common.{rules}
+use Rattle.std.proofs.iter.Yields.{fronts}
+use Rattle.std.proofs.lemmas.Fn.{fold_over}
+use Rattle.std.proofs.lemmas.Iterator.{YieldsList-from_slice}
 use Rattle.laws.specs.Fold.{fold}
-use Rattle.laws.proofs.Fold.{fold_turn, fold_end}
-use Rattle.room.proofs.Counts.{take-room}
-use Rattle.picture.specs.Picture.{targets, keep, most_dangerous}
+use Rattle.picture.specs.Picture.{keep, most_dangerous}
+use Rattle.picture.proofs.Loops.{one_more}
 use Rattle.picture.proofs.CollisionPicture.most_dangerous.Goals as goal
 
-pub loop-e-init : goal.loop-e-init
-unfolding targets
-loop-e-init c = (take-room _ _ _ _ c.held.ensures c.well_formed.0.1.1.1.0.1.0.1, refl)
-
-pub loop-e-preserved : goal.loop-e-preserved
-loop-e-preserved c = (c.loop-e.invariant.0, fold_turn _ _ _ (take c.held.result c.args.self.list) c.loop-e.e-index _ c.loop-e-test.true c.keep-best.ensures ∙ c.loop-e.invariant.1)
-
 pub returns : goal.returns
-unfolding most_dangerous
+unfolding most_dangerous fold
 returns c =
-    fold_end _ _ _ (take c.held.result c.args.self.list) c.loop-e.e-index (omega (arith, c.loop-e-test.false, c.loop-e.auto.e-index-end)) c.loop-e.invariant.1
-    ∙ ap (fold keep None) c.loop-e.invariant.0
+    fold_over fronts (λ y. y.now) _ (λ ys b. b ≡ fold keep None ys) _
+    (λ ys a x b q j k. let is : b ≡ keep a x.now = search rules in (is ∙ ap (λ a. keep a x.now) j ∙ sym (one_more None ys x.now), search rules))
+    c.iter.result c.args.self.now.targets.items _ _ (YieldsList-from_slice c.args.self.now.targets.items cc).runs refl c.fold.ensures.ran

@@ -1,22 +1,15 @@
-use native.Mathlib.Omega.{arith}
-use mathlib.Core.Path.{refl}
-use Rattle.text.proofs.Appending.{copied_one, copied_all, no_room}
+use Rattle.std.proofs.Common.{◌≤◌, ◌+◌, length, take, IsOk, OnOk, Ok, Err, Result, ap, ◌∙◌, arith, length-take}
+use Rattle.text.specs.Text.{room, appended}
+use Rattle.text.proofs.Appending.{fitting}
 use Rattle.text.proofs.Text.put.Goals as goal
 
-pub loop-b-init : goal.loop-b-init
-loop-b-init c = record { full = c.well_formed.0.1.1.0.1.0.1; inside = omega arith; so_far = refl }
+held : {T E P : Type 0} (r : Result T E) → IsOk r → OnOk r P → P
+held (Ok v) h p = p
+held (Err e) h p = cc
 
-pub bounds-t-n : goal.bounds-t-n
-bounds-t-n c = omega arith
-
-pub overflow_add-n : goal.overflow_add-n
-overflow_add-n c = omega arith
-
-pub loop-b-preserved : goal.loop-b-preserved
-loop-b-preserved c = copied_one c.loop-b.invariant (omega arith) (omega arith)
-
-pub returns-after-loop-b : goal.returns-after-loop-b
-returns-after-loop-b c = copied_all c.loop-b.invariant (omega arith)
-
-pub returns-then-n-ge-ROOM : goal.returns-then-n-ge-ROOM
-returns-then-n-ge-ROOM c = no_room c.loop-b.invariant (omega arith)
+pub returns : goal.returns
+returns c =
+    let fits : length c.self.inside.bytes.items + length (take c.min-n.result c.args.s.now) ≤ room = omega (arith, c.min-n.ensures, c.remaining_capacity.ensures, length-take c.min-n.result c.args.s.now) in
+    held _ (c.try_extend_from_slice.ensures.variant.1 fits) c.try_extend_from_slice.ensures.ok
+    ∙ fitting _ c.args.s.now c.remaining_capacity.result _ c.remaining_capacity.ensures c.min-n.ensures
+    ∙ ap (λ t. appended t c.args.s.now) c.self.view_is

@@ -6,4 +6,4 @@ pub returns : goal.returns
 unfolding three_decimals
 returns c =
     rw (← c.last_digit-3.ensures, ← c.last_digit-2.ensures, ← c.last_digit.ensures)
-    (then _ _ _ c.number-whole.ensures c.put.ensures)
+    (then _ _ _ c.number.ensures c.put.ensures)

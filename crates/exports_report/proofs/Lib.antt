@@ -1,2 +1,0 @@
--- Facts that the function's proof cites.
-pub mod Copying

@@ -1,2 +1,0 @@
--- What the code of the shared sides owes.
-pub mod Sides

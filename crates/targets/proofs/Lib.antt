@@ -1,2 +1,0 @@
--- What the code of the targets owes.
-pub mod Ranks
