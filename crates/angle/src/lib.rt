@@ -43,7 +43,8 @@ pub fn reciprocal(degrees: f64) -> f64
     wrap360(degrees + HALF_TURN)
 }
 
-// A direction from any number of degrees, for relative bearings too: the whole fold.
+// A direction from any number of degrees, for relative bearings too: the whole fold. Both names are the Rust's, which has `wrap360` of numbers and
+// `Direction::from_degrees_wrapped` of what becomes a direction, and each caller has the Rust's.
 pub fn from_degrees_wrapped(degrees: f64) -> f64
     ensures { result ≡ Fold.whole_fold degrees }
 {

@@ -5,9 +5,12 @@ use Prim.Native.Nat.{ℕ, ◌+◌, ◌*◌, ◌-◌, ◌^◌, ◌/◌, ◌≤◌
 use native.Mathlib.Nat.{le_of_lt, le_refl, le_trans, lt_irrefl, div-le_self, sub-le}
 use native.Mathlib.Omega.{arith}
 use lib.Arith.{lt→nleb}
-use lib.Dec.{T, leb, ltb, ltb→lt, le→leb}
+use lib.Dec.{T, leb, le→leb}
 use lib.Ieee.Bits.{is_true, is_false}
 use lib.Ieee.Fits.{and_r}
+use Rattle.std.specs.Prelude.{None, Some}
+use Rattle.std.specs.Bool.{then_some}
+use Rattle.std.specs.declared.option.Option.{Option}
 use Rattle.series.specs.Taylor.{sine_divisors, cosine_divisors}
 use Rattle.series.specs.Units.{horner, square, sine_units, cosine_units}
 use Rattle.grid.specs.Search.{greatest, up_to, greatest_to, Found}
@@ -60,14 +63,14 @@ kept p i low half B t h e b u v = rw v at (turn 49 i p low half B t h e b u)
 pub passed_over : (p : ℕ → Bool) (i low half B : ℕ) (t : Bool) → i < 49 → half ≡ 2 ^ (49 - i) → greatest (49 - i) p low ≡ B → t ≡ p (low + half / 2) → t ≡ false → greatest (49 - (i + 1)) p low ≡ B
 passed_over p i low half B t h e b u v = rw v at (turn 49 i p low half B t h e b u)
 
--- ---- the checks of a step
+-- ---- the checks of a step: by the slope there, and of a step that passes by the next
 pub sine_here : (x a z s : ℕ) → a < last_step → z ≡ 512 * a * (512 * a) / 2 ^ 58 → s ≡ sine_step a → s ≤ x → x - s + 10 ≤ (2 ^ 58 - z / 2) / 2 ^ 49 → Found last_step (at_most x) a
 unfolding at_most
 sine_here x a z s h e f p q = record { within = le_of_lt h; passes = le→leb (sine_step a) x (rw f at p); next = λ k. lt→nleb (sine_step (a + 1)) x (steps.certified a x z (le_of_lt h) e (rw f at p) (rw f at q)) }
 
-pub sine_next : (x a s t : ℕ) → a < last_step → s ≡ sine_step a → s ≤ x → t ≡ sine_step (a + 1) → ltb x t ≡ true → Found last_step (at_most x) a
+pub sine_passes : (x a s : ℕ) → s ≡ sine_step a → s ≤ x → T (at_most x a)
 unfolding at_most
-sine_next x a s t h f p g q = record { within = le_of_lt h; passes = le→leb (sine_step a) x (rw f at p); next = λ k. lt→nleb (sine_step (a + 1)) x (rw g at (ltb→lt x t (subst T (sym q) tt))) }
+sine_passes x a s f p = le→leb (sine_step a) x (rw f at p)
 
 pub rest_here : (e f a z y t g : ℕ) → 0 < f → a < last_step → z ≡ 512 * a * (512 * a) / 2 ^ 58 → y ≡ z / (f * f) → y ≤ 2 ^ 58 → t ≡ rest_step f a → g ≡ 512 * a * (2 ^ 58 - y / 6) / 2 ^ 58 → t ≤ 2 * (e * (f * f)) → 2 * (e * (f * f)) + 9 ≤ t + g / 2 ^ 48 → Found last_step (fits_in e f) a
 unfolding fits_in
@@ -78,9 +81,9 @@ rest_here e f a z y t g hf h ez ey ly et eg p q =
       next = λ k. lt→nleb (rest_step f (a + 1)) (2 * (e * (f * f))) (up.certified f a (2 * (e * (f * f))) y hf (le_of_lt h) (ey ∙ ap (λ v. v / (f * f)) ez) ly (rw (et, eg) at q));
     }
 
-pub rest_next : (e f a t u : ℕ) → a < last_step → t ≡ rest_step f a → t ≤ 2 * (e * (f * f)) → u ≡ rest_step f (a + 1) → ltb (2 * (e * (f * f))) u ≡ true → Found last_step (fits_in e f) a
+pub rest_passes : (e f a t : ℕ) → t ≡ rest_step f a → t ≤ 2 * (e * (f * f)) → T (fits_in e f a)
 unfolding fits_in
-rest_next e f a t u h et p eu q = record { within = le_of_lt h; passes = le→leb (rest_step f a) (2 * (e * (f * f))) (rw et at p); next = λ k. lt→nleb (rest_step f (a + 1)) (2 * (e * (f * f))) (rw eu at (ltb→lt (2 * (e * (f * f))) u (subst T (sym q) tt))) }
+rest_passes e f a t et p = le→leb (rest_step f a) (2 * (e * (f * f))) (rw et at p)
 
 pub tangent_here : (u w a z s c g h x y : ℕ) → u ≤ 2 ^ 58 → w ≤ 2 ^ 58 → a < last_step → z ≡ 512 * a * (512 * a) / 2 ^ 58 → z ≤ 2 ^ 58 → s ≡ sine_step a → c ≡ cosine_step a → g ≡ u * s / 2 ^ 58 → h ≡ w * c / 2 ^ 58 → x ≡ u * (2 ^ 58 - z / 2) / 2 ^ 58 → y ≡ w * (512 * a - 512 * a / 6) / 2 ^ 58
     → g ≤ h → h + 17 ≤ g + (x + y) / 2 ^ 49 → Found last_step (not_above u w) a
@@ -90,10 +93,20 @@ tangent_here u w a z s c g h x y hu hw ha ez lz es ec eg eh ex ey p q =
     let eh' : h ≡ w * cosine_step a / 2 ^ 58 = eh ∙ ap (λ t. w * t / 2 ^ 58) ec in
     record { within = le_of_lt ha; passes = le→leb _ _ (subst₂ (λ i j. i ≤ j) eg' eh' p); next = λ k. lt→nleb _ _ (octant.certified u w a z hu hw (le_of_lt ha) ez lz (rw (eg', eh', ex, ey) at q)) }
 
-pub tangent_next : (u w a s c g h : ℕ) (t : Bool) → a < last_step → s ≡ sine_step a → c ≡ cosine_step a → g ≡ u * s / 2 ^ 58 → h ≡ w * c / 2 ^ 58 → g ≤ h → t ≡ not_above u w (a + 1) → not t ≡ true → Found last_step (not_above u w) a
+pub tangent_passes : (u w a s c g h : ℕ) → s ≡ sine_step a → c ≡ cosine_step a → g ≡ u * s / 2 ^ 58 → h ≡ w * c / 2 ^ 58 → g ≤ h → T (not_above u w a)
 unfolding not_above
-tangent_next u w a s c g h t ha es ec eg eh p e n =
-    record { within = le_of_lt ha; passes = le→leb _ _ (subst₂ (λ i j. i ≤ j) (eg ∙ ap (λ t. u * t / 2 ^ 58) es) (eh ∙ ap (λ t. w * t / 2 ^ 58) ec) p); next = λ k. subst (λ b. T (not b)) e (subst T (sym n) tt) }
+tangent_passes u w a s c g h es ec eg eh p = le→leb _ _ (subst₂ (λ i j. i ≤ j) (eg ∙ ap (λ t. u * t / 2 ^ 58) es) (eh ∙ ap (λ t. w * t / 2 ^ 58) ec) p)
+
+pub next_fails : (p : ℕ → Bool) (a : ℕ) (t : Bool) → a < last_step → T (p a) → t ≡ p (a + 1) → not t ≡ true → Found last_step p a
+next_fails p a t h q e n = record { within = le_of_lt h; passes = q; next = λ k. subst (λ b. T (not b)) e (subst T (sym n) tt) }
+
+-- what is told where the slope settles it, and nothing else
+pub told_by : {X : Type 0} (b : Bool) (o : Option Bool) → o ≡ then_some b true → (b ≡ true → X) → o ≡ Some true → X
+told_by true o e f g = f refl
+told_by false o e f g = absurd (other (sym e ∙ g))
+  where
+    other : None ≡ Some true → ⊥
+    other h = cc
 
 -- ---- the same from what the products and the series promise
 -- what a product of units, a series for the sine and one for the cosine promise
@@ -144,8 +157,8 @@ module _ (a z : ℕ) (ha : a < last_step) (pz : Product (512 * a) (512 * a) z) w
     tangent_settled x y px py e =
         tangent_here u w a z s (2 ^ 58 - t / 2) g h x y hu hw ha square_is square_within (sine_of q s pq ps) (cosine_of k t pk pt) (pg.0 hu sine_within) (ph.0 hw (sub-le (2 ^ 58) _)) (px.0 hu (sub-le (2 ^ 58) _)) (py.0 hw (le_trans (sub-le (512 * a) _) (angle_small a ha))) p e
 
-    pub tangent_settled_next : (b : Bool) → b ≡ not_above u w (a + 1) → not b ≡ true → Found last_step (not_above u w) a
-    tangent_settled_next b eb n = tangent_next u w a s (2 ^ 58 - t / 2) g h b ha (sine_of q s pq ps) (cosine_of k t pk pt) (pg.0 hu sine_within) (ph.0 hw (sub-le (2 ^ 58) _)) p eb n
+    pub tangent_told : T (not_above u w a)
+    tangent_told = tangent_passes u w a s (2 ^ 58 - t / 2) g h (sine_of q s pq ps) (cosine_of k t pk pt) (pg.0 hu sine_within) (ph.0 hw (sub-le (2 ^ 58) _)) p
 
 -- the last step, where it passes
 pub at_last : (p : ℕ → Bool) → T (p last_step) → Found last_step p last_step

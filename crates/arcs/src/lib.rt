@@ -8,7 +8,7 @@
 
 mod guess;
 
-ghost use Rattle.std.specs.Prelude.{◌≡◌, Bool, true, ℕ, ◌*◌, ◌/◌, ◌^◌, ◌≤◌, ◌<◌};
+ghost use Rattle.std.specs.Prelude.{◌≡◌, Bool, true, Some, None, T, ℕ, ◌*◌, ◌/◌, ◌^◌, ◌≤◌, ◌<◌};
 ghost use Rattle.grid.specs.Search.{up_to, greatest_to, Found};
 ghost use Rattle.grid.specs.Grid.{last_step, sine_step, cosine_step};
 ghost use Rattle.grid.specs.Arcsine.{rest_step, at_most, fits_in, scale, upper_steps, arcsine_units};
@@ -43,11 +43,20 @@ trait Goal: Copy {
         requires { a ≤ last_step }
         ensures { result ≡ test self a };
 
-    // The check of one step: by its own value and the slope there, or, where these are too near to
-    // tell, by the next step's.
+    // Whether a step is the last that passes, as far as its own value and the slope there tell: of
+    // a step that passes, these can be too near to tell.
+    fn told(self, a: u64) -> Option<bool>
+        requires { a < last_step }
+        ensures found { result ≡ Some true → Found last_step (test self) a }
+        ensures passes { result ≡ None → T (test self a) };
+
+    // The check of one step: what is told, or, where that is nothing, by the next step.
     fn settled(self, a: u64) -> bool
         requires { a < last_step }
-        ensures { result ≡ true → Found last_step (test self) a };
+        ensures { result ≡ true → Found last_step (test self) a }
+    {
+        self.told(a).unwrap_or_else(|| !self.holds(a + 1))
+    }
 
     // A step that is found is the one that the definition names, and the definition names one.
     ghost only: { (g : Self) → Steady g → (A : ℕ) → Found last_step (test g) A → A ≡ greatest_to 49 last_step (test g) };
@@ -120,18 +129,15 @@ impl Goal for AtMost {
         sine_at(a) <= self.x
     }
 
-    fn settled(self, a: u64) -> bool {
+    fn told(self, a: u64) -> Option<bool> {
         let x = self.x;
         let r = 512 * a;
         let z = series::product(r, r);
         let s = series::product(r, series::sine_series(z));
         if x < s {
-            return false;
+            return Some(false);
         }
-        if x - s + 10 <= (ONE - z / 2) / STEP {
-            return true;
-        }
-        x < sine_at(a + 1)
+        (x - s + 10 <= (ONE - z / 2) / STEP).then_some(true)
     }
 
     ghost only = { λ g _ A r. Goal.at_most_only g.x A r };
@@ -153,7 +159,7 @@ impl Goal for FitsIn {
         rest_at(f, a) <= 2 * (e * (f * f))
     }
 
-    fn settled(self, a: u64) -> bool {
+    fn told(self, a: u64) -> Option<bool> {
         let FitsIn { e, f } = self;
         let twice = 2 * (e * (f * f));
         let r = 512 * a;
@@ -161,12 +167,9 @@ impl Goal for FitsIn {
         let y = z / (f * f);
         let t = series::product(z, series::cosine_series(y));
         if twice < t {
-            return false;
+            return Some(false);
         }
-        if twice + 9 <= t + series::product(r, ONE - y / 6) / (STEP / 2) {
-            return true;
-        }
-        twice < rest_at(f, a + 1)
+        (twice + 9 <= t + series::product(r, ONE - y / 6) / (STEP / 2)).then_some(true)
     }
 
     ghost only = { λ g _ A r. Goal.fits_in_only g.e g.f g.positive g.enough A r };
@@ -187,7 +190,7 @@ impl Goal for NotAbove {
         series::product(self.u, sine_at(a)) <= series::product(self.w, cosine_at(a))
     }
 
-    fn settled(self, a: u64) -> bool {
+    fn told(self, a: u64) -> Option<bool> {
         let NotAbove { u, w } = self;
         let r = 512 * a;
         let z = series::product(r, r);
@@ -196,13 +199,10 @@ impl Goal for NotAbove {
         let g = series::product(u, s);
         let h = series::product(w, c);
         if h < g {
-            return false;
+            return Some(false);
         }
         let slope = series::product(u, ONE - z / 2) + series::product(w, r - r / 6);
-        if h + 17 <= g + slope / STEP {
-            return true;
-        }
-        !self.holds(a + 1)
+        (h + 17 <= g + slope / STEP).then_some(true)
     }
 
     ghost only = { λ g h A r. Goal.not_above_only g.u g.w h.0 h.1 A r };
@@ -240,19 +240,9 @@ fn search<G: Goal>(goal: G) -> u64
     ensures { (result ≡ greatest_to 49 last_step (G.test goal)) × (result ≤ last_step) }
 {
     let guess = goal.guess();
-    if guess < LAST {
-        if goal.settled(guess) {
-            return guess;
-        }
-        if guess + 1 < LAST {
-            if goal.settled(guess + 1) {
-                return guess + 1;
-            }
-        }
-        if 0 < guess {
-            if goal.settled(guess - 1) {
-                return guess - 1;
-            }
+    for a in [guess, guess.wrapping_add(1), guess.wrapping_sub(1)] {
+        if a < LAST && goal.settled(a) {
+            return a;
         }
     }
     if passes(goal, LAST) {
@@ -262,21 +252,14 @@ fn search<G: Goal>(goal: G) -> u64
 }
 
 // ---- the arcsine
-// The scale of a rest of e units: the least power of two f with e * f^2 at least 2^54.
+// The scale of a rest of e units: the least power of two f with e * f^2 at least 2^54. Such a product has at most 9 leading zeros, and
+// each doubling of f makes them two fewer.
+#[tactic(auto, using(grid::proofs::Scaling::scale_shifted))]
 fn scale_of(e: u64) -> u64
     requires { (0 < e) × (e ≤ 2 ^ 58) }
     ensures { result ≡ scale e }
 {
-    let mut f: u64 = 1;
-    let mut scaled = e;
-    for _ in 0..27u64 {
-        if ONE / 16 <= scaled {
-            return f;
-        }
-        f = 2 * f;
-        scaled = 4 * scaled;
-    }
-    f
+    1 << (e.leading_zeros().saturating_sub(8) / 2)
 }
 
 // The angle that is left to half pi where the sine is e units below one, in steps of 2^-52.
@@ -303,20 +286,15 @@ pub fn arcsine(x: u64) -> u64
 
 // ---- the arctangent
 // The arctangent of w / u in steps of 2^-49, up to the last of the grid; 0 where u or w is above one.
+#[tactic(auto, unfolding(grid::specs::Arctangent::arctangent_steps), using(crate::specs::Goal::not_above_named))]
 pub fn arctangent(u: u64, w: u64) -> u64
     ensures { (u ≤ 2 ^ 58 → w ≤ 2 ^ 58 → result ≡ arctangent_steps u w) × (2 ^ 58 < u → result ≡ 0) × (2 ^ 58 < w → result ≡ 0) × (result ≤ last_step) }
 {
-    if ONE < u {
-        return 0;
-    }
-    if ONE < w {
+    if ONE < u || ONE < w {
         return 0;
     }
     let goal = NotAbove { u, w };
-    if u < ONE / 2 {
-        return by_halves(goal);
-    }
-    if u < w {
+    if u < ONE / 2 || u < w {
         return by_halves(goal);
     }
     search(goal)

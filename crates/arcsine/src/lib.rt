@@ -7,23 +7,20 @@ ghost use Rattle.arcsine.specs.Asin.{asin};
 
 use circular::TINY;
 
-// 2^-52.
-const GRID: f64 = 2.220446049250313e-16;
+// The step of the arcsine, 2^-52.
+const STEP: f64 = f64::EPSILON;
 
 // The arcsine of x; not a number outside 0 to 1.
 pub fn asin(x: f64) -> f64
     ensures { result ≡ asin x }
 {
-    if x < TINY {
-        if 0.0 <= x {
+    if 0.0 <= x && x <= 1.0 {
+        if x < TINY {
             return x;
         }
-        return 0.0 / 0.0;
-    }
-    if x <= 1.0 {
         if let Some(n) = circular::units(x) {
-            return math::multiple(false, arcs::arcsine(n), GRID);
+            return math::multiple(false, arcs::arcsine(n), STEP);
         }
     }
-    0.0 / 0.0
+    f64::NAN
 }

@@ -7,13 +7,14 @@ ghost use Rattle.arguments.specs.Check as Spec;
 use elementary::error::Refusal;
 use motion::units::{Direction, Distance, Speed};
 use motion::vessel::{Contact, Vessel};
+use turns::FULL_TURN;
 
 // From 0 up to but not including 360.
 #[tactic(auto, unfolding(crate::specs::Check::is_direction))]
 pub fn is_direction(d: Direction) -> bool
     ensures { result ≡ Spec.is_direction d }
 {
-    d.0 >= 0.0 && d.0 < 360.0
+    d.0 >= 0.0 && d.0 < FULL_TURN
 }
 
 // From 0 to 1,000 knots.
@@ -63,8 +64,8 @@ pub fn check_distance(d: Distance) -> Result<(), Refusal>
     ensure(is_distance(d), Refusal::Distance)
 }
 
-// Own craft, the contact and the target. They stay three arguments of each function on an encounter: the module keeps the Rust's signatures, so
-// that the two can be held side by side.
+// Own craft, the contact and the target. They stay three arguments of each function on an encounter: by the project's rule functions keep kinavis's
+// names and arguments, so that the two can be held side by side.
 pub fn check_encounter(own: Vessel, contact: Contact, target: Vessel) -> Result<(), Refusal>
     ensures { result ≡ Spec.checked (Spec.encounter_checks own contact target) }
 {

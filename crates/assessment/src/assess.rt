@@ -35,7 +35,7 @@ fn assessed(own: Vessel, contact: Contact, target: Vessel, policy: CpaPolicy) ->
         range: contact.range,
         bearing: contact.bearing,
         relative_course: vessel::direction_of(seen.velocity),
-        relative_speed: Speed(root::hypot(seen.velocity.north, seen.velocity.east)),
+        relative_speed: Speed(seen.velocity.size()),
         bearing_drift: risk::drift_of(seen),
         cpa,
         bow_crossing: risk::ahead_of(ahead),

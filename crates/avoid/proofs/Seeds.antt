@@ -37,7 +37,7 @@ use Rattle.std.specs.declared.result.Result.{Result}
 use Rattle.manoeuvre.specs.declared.AvoidanceManoeuvre.{AvoidanceManoeuvre}
 use Rattle.arguments.specs.Check as Check
 use Rattle.arguments.specs.Check.{verdict, encounter_checks, distance_checks}
-use Rattle.course.specs.declared.Avoidance.{Avoidance}
+use Rattle.motion.specs.declared.side.BySide.{BySide}
 use Rattle.course.specs.Course.{course_answer}
 use Rattle.motion.specs.declared.side.Side.{Side}
 use Rattle.motion.specs.declared.side.Side.TheVariants.{Starboard, Port}
@@ -113,7 +113,7 @@ module _ (least most : Float) (L : Limits least most) where
         seeds None = refl
         seeds (Some course) = same_seed (half_fold (course.0 ⊖ own.0)) (half_fold-fits (course.0 ⊖ own.0) (sub-fits binary64 course.0 own.0))
 
-same_seeded : (own : Vessel) (f g : Side → Float → Option Passing) (courses : Avoidance) (c : ManoeuvreConstraints)
+same_seeded : (own : Vessel) (f g : Side → Float → Option Passing) (courses : BySide (Option Direction)) (c : ManoeuvreConstraints)
     → Limits c.least_alteration.0 c.most_alteration.0 → ((side : Side) (m : Float) → Small 9 0 m → f side m ≡ g side m) → seeded_choice own f courses c ≡ seeded_choice own g courses c
 unfolding seeded_choice
 same_seeded own f g courses c L same =

@@ -12,7 +12,7 @@ use elementary::error::Refusal;
 use manoeuvre::AvoidanceManoeuvre;
 use motion::units::{Angle, Distance};
 use motion::vessel::{Contact, Vessel};
-use passages::Target;
+use passages::{Moving, Target};
 use seeds::{courses_in, seeded_choice};
 
 // Apart from `ruled`'s of this name: one function would need one type of answer, and this one is a signed alteration that no contact limits.
@@ -41,7 +41,7 @@ fn avoided(
     ensures { result ≡ Spec.avoided_as own contact target desired c }
 {
     let courses = courses_in(course::course_for_cpa(own, contact, target, desired));
-    let m = passages::moving_of(Target {
+    let m = Moving::from(Target {
         contact,
         vessel: target,
     });

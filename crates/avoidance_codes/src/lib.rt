@@ -11,7 +11,8 @@ use motion::units::{Angle, RateOfTurn};
 use room::MAX_CONTACTS;
 use traffic::Entry;
 
-// 0 either side, 1 starboard, 2 and above port. A table, and no `From`: the code is the C interface's, which `PermittedSides` doesn't know.
+// 0 either side, 1 starboard, 2 and above port. A table, and no `From` as of `Visibility`, whose code a sheet has too: this one is the C interface's
+// alone.
 #[tactic(auto, unfolding(crate::specs::Codes::permitted_sides))]
 pub fn permitted_sides(code: u32) -> PermittedSides
     ensures { result ≡ Spec.permitted_sides code }
@@ -23,7 +24,7 @@ pub fn permitted_sides(code: u32) -> PermittedSides
     }
 }
 
-// Constraints, with a rate of turn where `known` is not 0; the first refusal that making them meets.
+// Constraints, with a rate of turn where `known` is not 0, a flag of the C interface; the first refusal that making them meets.
 #[tactic(auto, unfolding(crate::specs::Codes::constraints_of))]
 pub fn constraints_of(
     sides: u32,
@@ -59,7 +60,7 @@ fn entry_at(floats: &[f64], at: usize) -> Entry
     Entry { contact, target }
 }
 
-// Where a contact's floats begin: after eight of six each, or after five of four each.
+// Where a contact's floats begin: after eight of six each, or after five of four each, as the C function that lists them has it (`wide` or not).
 #[tactic(auto, unfolding(crate::specs::Codes::place_of))]
 fn place_of(wide: bool, i: usize) -> usize
     requires { i < 100 }

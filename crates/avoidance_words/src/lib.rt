@@ -32,18 +32,6 @@ pub fn turned(
 ) -> [u64; 9]
     ensures { result ≡ Spec.turned side size course passing time limiting }
 {
-    match time {
-        None => [0, side, size, course, passing, 0, 0, 0, limiting],
-        Some(d) => [
-            0,
-            side,
-            size,
-            course,
-            passing,
-            1,
-            d.secs,
-            d.nanos as u64,
-            limiting,
-        ],
-    }
+    let (known, secs, nanos) = time.map_or((0, 0, 0), |d| (1, d.secs, d.nanos as u64));
+    [0, side, size, course, passing, known, secs, nanos, limiting]
 }

@@ -5,7 +5,7 @@ use Rattle.laws.specs.Ops.{◌⊖◌}
 use Rattle.angle.specs.Fold.{half_fold}
 use Rattle.best_course.specs.declared.Best.{Best}
 use Rattle.std.specs.declared.option.Option.{Option}
-use Rattle.best_course.specs.declared.Choice.{Choice}
+use Rattle.motion.specs.declared.side.BySide.{BySide}
 use Rattle.arguments.specs.Check.{zero}
 
 -- a course, by how much it alters own course to its side
@@ -16,7 +16,7 @@ abbrev pub smaller : Option Best → Float → Float → Option Best
 smaller None alteration course = Some (best alteration course)
 smaller (Some least) alteration course = cond (lt alteration least.alteration) (Some (best alteration course)) (Some least)
 
-unfoldable pub offered : Float → Float → Choice → Choice
+unfoldable pub offered : Float → Float → BySide (Option Best) → BySide (Option Best)
 offered own_course course choice =
     let alteration = half_fold (course ⊖ own_course) in
     cond (lt zero alteration) (record { starboard = smaller choice.starboard alteration course; port = choice.port })

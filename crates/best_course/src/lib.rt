@@ -4,6 +4,8 @@
 ghost use Rattle.std.specs.Prelude.{◌≡◌};
 ghost use Rattle.best_course.specs.Offers as Spec;
 
+use motion::side::BySide;
+
 // The best course so far on a side: by how much it alters to that side, and the course.
 #[derive(Clone, Copy)]
 pub struct Best {
@@ -11,25 +13,15 @@ pub struct Best {
     pub course: f64,
 }
 
-#[derive(Clone, Copy)]
-pub struct Choice {
-    pub starboard: Option<Best>,
-    pub port: Option<Best>,
-}
+// The best so far on each side.
+pub type Choice = BySide<Option<Best>>;
 
-// The smaller of two alterations to a side, the first of equals.
+// The smaller of two alterations to a side, the first of equals (`!(a < b)` is not `a >= b`: of what is no number it is true).
 fn smaller(best: Option<Best>, offer: Best) -> Option<Best>
     ensures { result ≡ Spec.smaller best offer.alteration offer.course }
 {
-    match best {
-        None => Some(offer),
-        Some(least) => {
-            if offer.alteration < least.alteration {
-                return Some(offer);
-            }
-            Some(least)
-        }
-    }
+    best.filter(|least| !(offer.alteration < least.alteration))
+        .or(Some(offer))
 }
 
 // One course more to choose from. No alteration at all belongs to neither side.

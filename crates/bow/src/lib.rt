@@ -27,6 +27,7 @@ pub fn crossing(seen: Relative, ahead: Components) -> Result<Distance, Refusal>
         offset,
         velocity,
     } = seen;
+    // Not by `cross`: its factors stand in another order and without the minus signs, so each product would need a law of f64s in the proof.
     let determinant = velocity.north * -ahead.east - velocity.east * -ahead.north;
     if math::abs(determinant) < PARALLEL {
         return Err(Refusal::AlongOwnTrack);

@@ -1,5 +1,5 @@
 -- What the tries owe: the first trial at which one of the sides clears decides.
-use Rattle.std.specs.Prelude.{None, Some, MatchOption, IsTrue}
+use Rattle.std.specs.Prelude.{Bool, None, Some, MatchOption, IsTrue}
 use Rattle.std.specs.Option.{option_map, IfSome, IsSomeAnd}
 use Rattle.std.specs.Fn.{Called}
 use Rattle.std.specs.Iterator.Runs.{SomeRun, AllItemsGive, IsFirstToGive, CallKeepsClosure}
@@ -21,7 +21,7 @@ use Rattle.std.specs.declared.option.Option.{Option}
 use Rattle.motion.specs.declared.side.Side.{Side}
 use Rattle.trials.specs.Trials.{trial, trials}
 use Rattle.trials.proofs.Listed.{next}
-use Rattle.choice.specs.declared.Sides.{Sides}
+use Rattle.motion.specs.declared.side.BySide.{BySide}
 use Rattle.choice.specs.declared.Chosen.{Chosen}
 use Rattle.choice.specs.Choice.{both, or_both, between}
 
@@ -67,7 +67,7 @@ module _ {B : Type 0} (h : ℕ → Option B) (n : ℕ) where
         )
 
 -- ---- the trials, in their order
-module _ (sides : Sides) (f : Side → Float → Option Passing) (least most : Float) where
+module _ (sides : BySide Bool) (f : Side → Float → Option Passing) (least most : Float) where
   abbrev pub on_both : ℕ → Option Chosen
   on_both k = both sides f (trial least most k)
 

@@ -15,7 +15,7 @@ use Rattle.clearing.specs.Clearing.{altered, clears, clears_at}
 use Rattle.motion.specs.declared.side.Side.{Side}
 use Rattle.motion.specs.declared.side.Side.TheVariants.{Starboard, Port}
 use Rattle.trials.specs.Trials.{trials}
-use Rattle.choice.specs.declared.Sides.{Sides}
+use Rattle.motion.specs.declared.side.BySide.{BySide}
 
 -- the alteration of a trial, positive to starboard (the Rust multiplies by 1 or -1, which rounds nothing)
 abbrev pub signed : Side → Float → Float
@@ -46,14 +46,14 @@ unfoldable pub side_choice : Bool → (Float → Option Passing) → Side → Li
 side_choice permitted clears side magnitudes = cond permitted (first clears side magnitudes) None
 
 -- of the first that clears on each permitted side, the smaller
-unfoldable pub choice : Sides → (Side → Float → Option Passing) → List Float → Option Chosen
+unfoldable pub choice : BySide Bool → (Side → Float → Option Passing) → List Float → Option Chosen
 choice sides clears magnitudes = smaller (side_choice sides.starboard (clears Starboard) Starboard magnitudes) (side_choice sides.port (clears Port) Port magnitudes)
 
 -- for own craft among targets: a trial clears by `clears`, and the magnitudes are the trial list
 unfoldable pub trial_clears : Vessel → List Target → Distance → Side → Float → Option Passing
 trial_clears own targets desired side magnitude = clears own (signed side magnitude) targets desired
 
-unfoldable pub choice_for : Vessel → List Target → Distance → Sides → Float → Float → Option Chosen
+unfoldable pub choice_for : Vessel → List Target → Distance → BySide Bool → Float → Float → Option Chosen
 choice_for own targets desired sides least most = choice sides (trial_clears own targets desired) (trials least most)
 
 -- ---- what is computed: by magnitude, starboard first
@@ -68,21 +68,21 @@ abbrev pub is_found : Option Chosen → Bool
 is_found None = false
 is_found (Some c) = true
 
-unfoldable pub both : Sides → (Side → Float → Option Passing) → Float → Option Chosen
+unfoldable pub both : BySide Bool → (Side → Float → Option Passing) → Float → Option Chosen
 both sides clears magnitude = or_else (tried sides.starboard Starboard magnitude (clears Starboard magnitude)) (tried sides.port Port magnitude (clears Port magnitude))
 
-unfoldable pub or_both : Sides → (Side → Float → Option Passing) → Option Chosen → Float → Option Chosen
+unfoldable pub or_both : BySide Bool → (Side → Float → Option Passing) → Option Chosen → Float → Option Chosen
 or_both sides clears (Some c) magnitude = Some c
 or_both sides clears None magnitude = both sides clears magnitude
 
-unfoldable pub between : Sides → (Side → Float → Option Passing) → List Float → Option Chosen
+unfoldable pub between : BySide Bool → (Side → Float → Option Passing) → List Float → Option Chosen
 between sides clears magnitudes = fold (or_both sides clears) None magnitudes
 
 unfoldable pub clears_on : Vessel → Float → List Moving → Side → Float → Option Passing
 clears_on own floor scene side magnitude = clears_at (velocity (altered own (signed side magnitude))) floor scene
 
-unfoldable pub tried_both : Vessel → Float → List Moving → Sides → Float → Option Chosen
+unfoldable pub tried_both : Vessel → Float → List Moving → BySide Bool → Float → Option Chosen
 tried_both own floor scene sides magnitude = both sides (clears_on own floor scene) magnitude
 
-unfoldable pub smallest : Vessel → Float → List Moving → Sides → Float → Float → Option Chosen
+unfoldable pub smallest : Vessel → Float → List Moving → BySide Bool → Float → Float → Option Chosen
 smallest own floor scene sides least most = between sides (clears_on own floor scene) (trials least most)

@@ -9,18 +9,14 @@ ghost use Rattle.clearing.specs.Clearing as Clearing;
 ghost use Rattle.choice.specs.Choice as Spec;
 
 use clearing::Passing;
-use motion::side::Side;
+use motion::side::{BySide, Side};
 use motion::units::{Angle, Direction, Distance};
 use motion::vessel::Vessel;
 use passages::Moving;
 use trials::TrialList;
 
 // The sides to which own craft may alter.
-#[derive(Clone, Copy)]
-pub struct Sides {
-    pub starboard: bool,
-    pub port: bool,
-}
+pub type Sides = BySide<bool>;
 
 // A trial that clears: the list that held it, its magnitude, and how the traffic passes.
 #[derive(Clone, Copy)]
@@ -54,8 +50,7 @@ pub fn altered(own: Vessel, alteration: f64) -> Vessel
 fn chosen_if(side: Side, magnitude: f64, c: Option<Passing>) -> Option<Chosen>
     ensures { result ≡ Spec.chosen side magnitude c }
 {
-    let passing = c?;
-    Some(Chosen {
+    c.map(|passing| Chosen {
         side,
         magnitude: Angle(magnitude),
         passing,
@@ -106,7 +101,7 @@ impl<'a> Search<'a> {
     fn try_both(&self, sides: Sides, magnitude: f64) -> Option<Chosen>
         ensures { result ≡ Spec.tried_both self.now.own self.now.floor self.now.scene.now sides magnitude }
     {
-        // A match: of a closure that borrows a type with a lifetime, here `&Search<'a>`, `or_else` says nothing of what it returns.
+        // A match: `or_else` has its closure's `F.post`, which says nothing where it borrows `&Search<'a>`; `find_map` has its `F.FnMut`, which does.
         match self.try_side(sides.starboard, Side::Starboard, magnitude) {
             Some(c) => Some(c),
             None => self.try_side(sides.port, Side::Port, magnitude),

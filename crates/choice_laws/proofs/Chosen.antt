@@ -15,7 +15,7 @@ use Rattle.motion.specs.declared.side.Side.{Side}
 use Rattle.motion.specs.declared.side.Side.TheVariants.{Starboard, Port}
 use Rattle.clearing.specs.declared.Passing.{Passing}
 use Rattle.std.specs.declared.option.Option.{Option}
-use Rattle.choice.specs.declared.Sides.{Sides}
+use Rattle.motion.specs.declared.side.BySide.{BySide}
 use Rattle.choice.specs.declared.Chosen.{Chosen}
 use Rattle.choice.specs.Choice.{smaller, side_choice, choice}
 use Rattle.choice_laws.specs.Smallest.{IsFirst, allows, IsChoice}
@@ -43,7 +43,7 @@ module _ (clears : Float → Option Passing) (side : Side) (ms : List Float) whe
   side_none false e t m h = absurd t
 
 -- ---- both sides
-module _ (sides : Sides) (clears : Side → Float → Option Passing) (ms : List Float) (up : Ascending ms) where
+module _ (sides : BySide Bool) (clears : Side → Float → Option Passing) (ms : List Float) (up : Ascending ms) where
   abbrev s : Option Chosen
   s = side_choice sides.starboard (clears Starboard) Starboard ms
 

@@ -25,7 +25,7 @@ use Rattle.choice.specs.declared.Chosen.{Chosen}
 use Rattle.clearing.specs.declared.Passing.{Passing}
 use Rattle.std.specs.declared.option.Option.{Option}
 use Rattle.clearing.specs.Clearing.{floor_of, moving}
-use Rattle.choice.specs.declared.Sides.{Sides}
+use Rattle.motion.specs.declared.side.BySide.{BySide}
 use Rattle.choice.specs.Choice.{signed, chosen, or_first, first, smaller, side_choice, choice, trial_clears, choice_for, clears_on, smallest}
 use Rattle.choice_laws.specs.Fit.{FitVessel, FitTargets}
 use Rattle.choice_laws.proofs.Prepared.{same_clears}
@@ -69,7 +69,7 @@ same_side_lem : (permitted : Bool) (f g : Float → Option Passing) (side : Side
 unfolding side_choice
 same_side_lem permitted f g side ms h = ap (λ c. cond permitted c None) (same_first f g side ms h)
 
-pub same_choice : (sides : Sides) (f g : Side → Float → Option Passing) (ms : List Float) → ((side : Side) (m : Float) → Memᴰ m ms → f side m ≡ g side m) → choice sides f ms ≡ choice sides g ms
+pub same_choice : (sides : BySide Bool) (f g : Side → Float → Option Passing) (ms : List Float) → ((side : Side) (m : Float) → Memᴰ m ms → f side m ≡ g side m) → choice sides f ms ≡ choice sides g ms
 unfolding choice
 same_choice sides f g ms h =
     ap (λ s. smaller s (side_choice sides.port (f Port) Port ms)) (same_side_lem sides.starboard (f Starboard) (g Starboard) Starboard ms (h Starboard))
@@ -81,7 +81,7 @@ module _ (own : Vessel) (ts : List Target) (desired : Distance) (o : FitVessel o
   unfolding clears_on trial_clears
   same_trial side m s = sym (same_clears own (signed side m) ts desired o (signed-small side m s) f)
 
-  pub smallest_is : (sides : Sides) (least most : Float) → Limits least most → smallest own (floor_of desired) (map moving ts) sides least most ≡ choice_for own ts desired sides least most
+  pub smallest_is : (sides : BySide Bool) (least most : Float) → Limits least most → smallest own (floor_of desired) (map moving ts) sides least most ≡ choice_for own ts desired sides least most
   unfolding smallest choice_for
   smallest_is sides least most L =
       between_is_choice sides (clears_on own (floor_of desired) (map moving ts)) (trials least most) (ascending least most (is_trial_list least most L))

@@ -14,7 +14,7 @@ use Rattle.motion.specs.declared.side.Side.{Side}
 use Rattle.motion.specs.declared.side.Side.TheVariants.{Starboard, Port}
 use Rattle.std.specs.declared.option.Option.{Option}
 use Rattle.clearing.specs.declared.Passing.{Passing}
-use Rattle.choice.specs.declared.Sides.{Sides}
+use Rattle.motion.specs.declared.side.BySide.{BySide}
 use Rattle.choice.specs.declared.Chosen.{Chosen}
 use Rattle.choice.specs.Choice.{chosen, first, smaller, side_choice, choice, tried, or_else, both, or_both, between}
 use Rattle.choice_laws.proofs.First.{taken, clears-first, not_first, all_fail, is_first}
@@ -95,7 +95,7 @@ module _ (f g : Float → Option Passing) where
           ∙ sym (ap (λ k. smaller k (first g Port ms)) (not_first f Starboard m ms e)) ∙ sym (ap (smaller (first f Starboard (m ∷ ms))) (not_first g Port m ms h))
 
 -- ---- the code's choice is document 01's
-module _ (sides : Sides) (clears : Side → Float → Option Passing) where
+module _ (sides : BySide Bool) (clears : Side → Float → Option Passing) where
   abbrev f : Float → Option Passing
   f = on sides.starboard (clears Starboard)
 

@@ -6,7 +6,7 @@ use Rattle.motion.specs.declared.side.Side.{Side}
 use Rattle.motion.specs.declared.side.Side.TheVariants.{Starboard, Port}
 use Rattle.clearing.specs.declared.Passing.{Passing}
 use Rattle.std.specs.declared.option.Option.{Option}
-use Rattle.choice.specs.declared.Sides.{Sides}
+use Rattle.motion.specs.declared.side.BySide.{BySide}
 use Rattle.choice.specs.declared.Chosen.{Chosen}
 
 pub record IsFirst (clears : Float → Option Passing) (side : Side) (magnitudes : List Float) (c : Chosen) : Type 0 where
@@ -15,12 +15,12 @@ pub record IsFirst (clears : Float → Option Passing) (side : Side) (magnitudes
   pub clear : clears c.magnitude.0 ≡ Some c.passing
   pub least : (m : Float) → Memᴰ m magnitudes → T (lt m c.magnitude.0) → clears m ≡ None
 
-abbrev pub allows : Sides → Side → Bool
+abbrev pub allows : BySide Bool → Side → Bool
 allows s Starboard = s.starboard
 allows s Port = s.port
 
 -- the smallest trial on a permitted side that clears, starboard of equal ones
-pub record IsChoice (sides : Sides) (clears : Side → Float → Option Passing) (magnitudes : List Float) (c : Chosen) : Type 0 where
+pub record IsChoice (sides : BySide Bool) (clears : Side → Float → Option Passing) (magnitudes : List Float) (c : Chosen) : Type 0 where
   pub permitted : T (allows sides c.side)
   pub listed : Memᴰ c.magnitude.0 magnitudes
   pub clear : clears c.side c.magnitude.0 ≡ Some c.passing

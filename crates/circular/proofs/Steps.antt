@@ -1,8 +1,11 @@
 -- What the code owes, step by step.
 use Rattle.std.proofs.Common.{◌≡◌, ℕ, suc, ◌+◌, ◌*◌, ◌/◌, ◌%◌, ◌^◌, ◌<◌, ◌≤◌, Bool, true, false, cond, not, T, eqb, ltb, leb, pos, negsuc, sym, refl, ap, ◌∙◌, subst, le_trans, lt_of_le_of_lt, mul-le-mul_right, arith, lit<, lit≤, ltb→lt, lt→ltb, nltb→le, pow_pos}
 use native.Mathlib.Nat.{div-le_of_le-mul}
+use Rattle.std.specs.Prelude.{MatchOption}
+use Rattle.std.specs.Prelude.{Some, None, IfSome, is_some}
+use Rattle.std.specs.declared.option.Option.{Option}
 use Rattle.std.specs.Int.{abs_diff}
-use lib.Ieee.{Float, nan, inf, fin, binary64, fits, up, down, neg, mul, div, round, to_unsigned, lt, le, unlike, of_bits}
+use lib.Ieee.{Float, nan, inf, fin, binary64, fits, up, down, neg, mul, round, to_unsigned, lt, le, unlike, of_bits}
 use lib.Ieee.Bits.{is_true}
 use lib.Ieee.Exact.{HasValue}
 use lib.Ieee.Fits.{eq→eqb}
@@ -10,7 +13,7 @@ use lib.Ieee.Scale.{finite}
 use Rattle.laws.specs.Units.{Units, sign, units_of}
 use Rattle.laws.proofs.Bools.{holds, fails, refuted}
 use Rattle.laws.proofs.Compare.{lt-units, lt-units-signed}
-use Rattle.laws.proofs.Exact.{mul_power, to_unsigned_lem, castable_value, zero_by_zero}
+use Rattle.laws.proofs.Exact.{mul_power, to_unsigned_lem, castable_value}
 use Rattle.laws.proofs.Units.{own_units}
 use Rattle.math.specs.Sign.{abs}
 use Rattle.math.proofs.Sign.{abs-units, units_of-abs, neg-round}
@@ -136,11 +139,15 @@ module _ (x a : Float) (t : T (fits binary64 a)) (e : a ≡ abs x) where
   clear : sign a ≡ false
   clear = ap sign e ∙ abs-sign x
 
+  pub units_are : le a largest ≡ true → (n : ℕ) → n ≡ to_unsigned 64 (mul binary64 a (fin false 1 (pos 58))) → (in_domain x ≡ true) × (n ≡ scaled x) × (n ≤ 2 ^ 62)
+  units_are l n g = let u = units_is a t (within l) clear n g in (inside_is l, u.0 ∙ ap scaled e ∙ scaled-abs x, u.1)
+
   pub castable : le a largest ≡ true → T (lt (fin true 1 (pos 0)) (mul binary64 a (fin false 1 (pos 58)))) × T (lt (mul binary64 a (fin false 1 (pos 58))) (fin false 1 (pos 64)))
   castable l = units_asks a t (within l) clear
 
-  pub units_are : le a largest ≡ true → (n : ℕ) → n ≡ to_unsigned 64 (mul binary64 a (fin false 1 (pos 58))) → (in_domain x ≡ true) × (n ≡ scaled x) × (n ≤ 2 ^ 62)
-  units_are l n g = let u = units_is a t (within l) clear n g in (inside_is l, u.0 ∙ ap scaled e ∙ scaled-abs x, u.1)
+  pub units_answer : (r : Option ℕ) → is_some r ≡ le a largest → IfSome r (λ n. n ≡ to_unsigned 64 (mul binary64 a (fin false 1 (pos 58)))) → MatchOption r (in_domain x ≡ false) (λ n. (in_domain x ≡ true) × (n ≡ scaled x) × (n ≤ 2 ^ 62))
+  units_answer None i g = inside_is (sym i)
+  units_answer (Some n) i g = units_are (sym i) n g
 
 module _ (x : Float) (t : T (fits binary64 x)) (d : in_domain x ≡ true) (n : ℕ) (f : n ≡ scaled x) where
   pub small-rest : rest n ≤ 2 ^ 58
@@ -175,10 +182,18 @@ pub sin-tiny : (x a : Float) → a ≡ abs x → lt a tiny ≡ true → x ≡ si
 unfolding sin
 sin-tiny x a e p = rw (ap (λ z. lt z tiny) (sym e) ∙ p) refl
 
-pub sin_outside : (x a : Float) → a ≡ abs x → lt a tiny ≡ false → in_domain x ≡ false → div binary64 zero_float zero_float ≡ sin x
+pub sin_outside : (x a : Float) → a ≡ abs x → lt a tiny ≡ false → in_domain x ≡ false → nan ≡ sin x
 unfolding sin
-sin_outside x a e p d = rw (ap (λ z. lt z tiny) (sym e) ∙ p, d) zero_by_zero
+sin_outside x a e p d = rw (ap (λ z. lt z tiny) (sym e) ∙ p, d) refl
 
-pub cos_outside : (x : Float) → in_domain x ≡ false → div binary64 zero_float zero_float ≡ cos x
+pub cos_outside : (x : Float) → in_domain x ≡ false → nan ≡ cos x
 unfolding cos
-cos_outside x d = rw d zero_by_zero
+cos_outside x d = rw d refl
+
+pub cos_answer : (x : Float) → T (fits binary64 x) → (o : Option ℕ) → MatchOption o (in_domain x ≡ false) (λ n. (in_domain x ≡ true) × (n ≡ scaled x) × (n ≤ 2 ^ 62)) → (y : Float) (P : ℕ → Type 0) → MatchOption o (y ≡ nan) P → ((n : ℕ) → P n → y ≡ from_units (turned_minus 1 n) (turned_units 1 n)) → y ≡ cos x
+cos_answer x t None d y P e f = e ∙ cos_outside x d
+cos_answer x t (Some n) u y P e f = cos_inside x t u.0 n u.1 y (f n e)
+
+-- what `turned` asks of units
+pub asked : (x : Float) → T (fits binary64 x) → (n : ℕ) (o : Option ℕ) → o ≡ Some n → MatchOption o (in_domain x ≡ false) (λ n. (in_domain x ≡ true) × (n ≡ scaled x) × (n ≤ 2 ^ 62)) → (n ≤ 2 ^ 62) × (1 ≤ 1) × (rest n ≤ 2 ^ 58)
+asked x t n o e u = let v = rw e at u in (v.2, lit≤ tt, small-rest x t v.0 n v.1)

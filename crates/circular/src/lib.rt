@@ -29,10 +29,7 @@ pub fn units(x: f64) -> Option<u64>
     ensures { MatchOption result (Sine.in_domain x ≡ false) (λ n. (Sine.in_domain x ≡ true) × (n ≡ Sine.scaled x) × (n ≤ 2 ^ 62)) }
 {
     let a = math::abs(x);
-    if a <= LARGEST {
-        return Some(std::num::truncating_f64_to_u64(a * ONE));
-    }
-    None
+    (a <= LARGEST).then(|| std::num::truncating_f64_to_u64(a * ONE))
 }
 
 // How many half pis are nearest to n units. Half pi is HALF_PI units and nearly 2/3 of a unit more, so that a remainder
@@ -58,7 +55,8 @@ fn from_units(minus: bool, v: u64) -> f64
     math::multiple(minus, (v + 16) / 32, GRID)
 }
 
-// The sine of n units and `more` half pis.
+// The sine of n units and `more` half pis. `more` stays a number, 0 or 1: it is added to the half pis that are nearest, and a bool would be
+// made that number again.
 fn turned(n: u64, more: u64) -> f64
     requires { (n ≤ 2 ^ 62) × (more ≤ 1) × (rest n ≤ 2 ^ 58) }
     ensures { result ≡ Sine.from_units (turned_minus more n) (turned_units more n) }
@@ -74,26 +72,23 @@ fn turned(n: u64, more: u64) -> f64
     from_units(back, series::cosine(left))
 }
 
-// The sine of x radians; not a number outside -16 to 16.
+// The sine of x radians; not a number outside -16 to 16. No `map_or`, as in the cosine: its closure would be a block of these two statements.
 pub fn sin(x: f64) -> f64
     ensures { result ≡ Sine.sin x }
 {
     if math::abs(x) < TINY {
         return x;
     }
-    if let Some(n) = units(x) {
-        let y = turned(n, 0);
-        return if x < 0.0 { -y } else { y };
-    }
-    0.0 / 0.0
+    let Some(n) = units(x) else {
+        return f64::NAN;
+    };
+    let y = turned(n, 0);
+    if x < 0.0 { -y } else { y }
 }
 
 // The cosine of x radians; not a number outside -16 to 16.
 pub fn cos(x: f64) -> f64
     ensures { result ≡ Sine.cos x }
 {
-    if let Some(n) = units(x) {
-        return turned(n, 1);
-    }
-    0.0 / 0.0
+    units(x).map_or(f64::NAN, |n| turned(n, 1))
 }

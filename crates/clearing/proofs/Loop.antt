@@ -1,9 +1,9 @@
 -- The loop over the contacts: each turn takes one more of those that are left, and one that blocks decides, wherever it stands.
-use Rattle.std.specs.Prelude.{None, Some, is_some}
+use Rattle.std.specs.Prelude.{None, Some, is_some, MatchBool, HoldsAt}
 use Rattle.std.specs.Option.{unwrap_or}
 use mathlib.Core.Path.{◌≡◌, refl, sym, ap, ◌∙◌}
 use mathlib.Core.Bool.{Bool, true, false, not, true≢false}
-use mathlib.Core.List.{List, ◌∷◌, map}
+use mathlib.Core.List.{List, [], ◌∷◌, map}
 use Prim.Native.Nat.{ℕ, zero, suc, ◌+◌, ◌<◌}
 use native.Mathlib.Nat.{le_of_lt, lt_of_lt_of_le}
 use native.Mathlib.Numerals.{add-one}
@@ -77,3 +77,13 @@ module _ {A : Type 0} (f : A → Option Distance) (l : List A) where
   pub whole : left 0 None ≡ clearing (map f l)
   unfolding clearing
   whole = refl
+
+-- one of them blocks, where `any` says so
+pub found_blocks : {A : Type 0} (N : Type 0) (f : A → Option Distance) (l : List A) (r : Bool) → MatchBool r ((i : ℕ) × (i < length l) × HoldsAt (λ x. f x ≡ None) l i) N → r ≡ true
+    → clearing (map f l) ≡ None
+found_blocks N f [] true w e = absurd (not_below_zero w.0 w.1)
+  where
+    not_below_zero : (i : ℕ) → i < 0 → ⊥
+    not_below_zero i h = omega arith
+found_blocks N f (x ∷ l) true w e = sym (whole f (x ∷ l)) ∙ one_blocks f (x ∷ l) w.0 x _ w.1 refl (w.2 x)
+found_blocks N f l false w e = no e

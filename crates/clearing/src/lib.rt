@@ -11,7 +11,6 @@ ghost use Rattle.std.specs.Prelude.{◌≡◌, true, None};
 ghost use Rattle.clearing.specs.Clearing as Spec;
 
 use motion::units::Distance;
-use motion::vessel;
 use motion::vessel::Components;
 use passages::{Moving, passage_of};
 
@@ -27,7 +26,7 @@ pub struct Passing {
 
 // What passes without contacts: nobody, at the largest distance.
 const NOBODY: Passing = Passing {
-    distance: Distance(1.7976931348623157e308),
+    distance: Distance(f64::MAX),
     limiting: None,
 };
 
@@ -40,21 +39,18 @@ fn nearer(closest: Option<Passing>, place: usize, distance: Distance) -> Passing
         distance,
         limiting: Some(place),
     };
-    match closest {
-        None => next,
-        Some(least) if distance.0 < least.distance.0 => next,
-        Some(least) => least,
-    }
+    closest
+        .filter(|least| !(distance.0 < least.distance.0))
+        .unwrap_or(next)
 }
 
 // Whether a contact seems to close to a point nearer than the root of `square`: that point's distance is the offset's cross product with
 // the relative velocity, over the relative speed. Nothing is promised of it.
 fn is_suspect(own: Components, m: Moving, square: f64) -> bool {
-    let relative = vessel::difference(m.velocity, own);
-    let rate = m.offset.north * relative.north + m.offset.east * relative.east;
-    let cross = m.offset.north * relative.east - m.offset.east * relative.north;
-    let speed = relative.north * relative.north + relative.east * relative.east;
-    (rate < 0.0) & (cross * cross < square * speed)
+    let seen = m.seen_from(own);
+    let cross = seen.offset.cross(seen.velocity);
+    let speed = seen.velocity.dot(seen.velocity);
+    seen.range_rate() < 0.0 && cross * cross < square * speed
 }
 
 // Whether one of the suspects blocks the course.
@@ -62,18 +58,14 @@ fn suspect_blocks(own: Components, scene: &[Moving], floor: f64) -> bool
     ensures { result ≡ true → Spec.clears_at own floor scene.now ≡ None }
 {
     let square = floor * floor * DOUBT;
-    for m in scene {
-        if is_suspect(own, *m, square) && passage_of(own, *m, floor).is_none() {
-            return true;
-        }
-    }
-    false
+    scene.iter().any(|m| is_suspect(own, *m, square) && passage_of(own, *m, floor).is_none())
 }
 
 // All contacts, each worked out.
 fn tallied(own: Components, scene: &[Moving], floor: f64) -> Option<Passing>
     ensures { result ≡ Spec.clears_at own floor scene.now }
 {
+    // A loop: `try_fold` would carry an `Option` of an `Option`, one for a contact that blocks and one for nobody yet.
     let mut closest = None;
     for (place, m) in scene.iter().enumerate() {
         let distance = passage_of(own, *m, floor)?;

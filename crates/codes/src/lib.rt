@@ -23,15 +23,12 @@ pub fn category(code: u32) -> VesselCategory
     code::category(code, Tack::Port, Tack::Starboard, Tack::Unknown)
 }
 
-// A direction, unknown where `known` is 0.
+// A direction, unknown where `known` is 0: a flag beside the value, as the C interface hands in what may be lacking.
 #[tactic(auto, unfolding(crate::specs::Codes::perhaps))]
 pub fn perhaps(known: u32, degrees: f64) -> Option<Direction>
     ensures { result ≡ Spec.perhaps known degrees }
 {
-    if known == 0 {
-        return None;
-    }
-    Some(Direction(degrees))
+    (known != 0).then_some(Direction(degrees))
 }
 
 // A vessel in an encounter, with a heading where `known` is not 0.

@@ -6,6 +6,7 @@ use Rattle.math.specs.Sign.{abs}
 use Rattle.elementary.specs.Refusal.{number_of}
 use Rattle.elementary.specs.Range.{in_range}
 use Rattle.elementary.specs.declared.error.Refusal.TheVariants as Why
+use Rattle.motion.specs.declared.side.BySide.{BySide}
 use Rattle.motion.specs.declared.units.Angle.{Angle}
 use Rattle.motion.specs.declared.units.RateOfTurn.{RateOfTurn}
 use Rattle.std.specs.declared.option.Option.{Option}
@@ -25,6 +26,9 @@ abbrev pub permits_port : PermittedSides → Bool
 permits_port Sides.Either = true
 permits_port Sides.Starboard = false
 permits_port Sides.Port = true
+
+abbrev pub permits : PermittedSides → BySide Bool
+permits sides = record { starboard = permits_starboard sides; port = permits_port sides }
 
 -- 180; the smallest normal f64 and the largest
 abbrev pub reversal : Float

@@ -7,15 +7,17 @@ ghost use Rattle.arguments.specs.Check as Check;
 ghost use Rattle.constraints.specs.Constraints as Spec;
 
 use elementary::error::Refusal;
+use motion::side::BySide;
 use motion::units::{Angle, RateOfTurn};
+use trials::TrialList;
 
 // A reversal, in degrees.
 const MAX_ALTERATION: f64 = 180.0;
 
 // The smallest normal f64 and the largest one: a rate of turn is at least the first in size.
-const SLOWEST: f64 = 2.2250738585072014e-308;
+const SLOWEST: f64 = f64::MIN_POSITIVE;
 
-const FASTEST: f64 = 1.7976931348623157e308;
+const FASTEST: f64 = f64::MAX;
 
 #[derive(Clone, Copy)]
 pub enum PermittedSides {
@@ -48,8 +50,19 @@ impl PermittedSides {
     }
 }
 
-// The least alteration from 0 to 180 degrees, then the most from there to 180 (number 4). Two arguments, as `new` has them: a struct of both
-// would only be taken apart in `ManoeuvreConstraints`, which holds them from then on.
+impl From<PermittedSides> for BySide<bool> {
+    ghost from_gives = { λ sides result. result ≡ Spec.permits sides };
+
+    fn from(sides: PermittedSides) -> BySide<bool> {
+        BySide {
+            starboard: sides.starboard(),
+            port: sides.port(),
+        }
+    }
+}
+
+// The least alteration from 0 to 180 degrees, then the most from there to 180 (number 4).
+// Two arguments and no `TrialList`, whose figures are bare f64s: all callers hold two `Angle`s, and would make a list for the check alone.
 #[tactic(auto, unfolding(arguments::specs::Check::verdict))]
 pub fn check_alterations(least: Angle, most: Angle) -> Result<(), Refusal>
     ensures { result ≡ Check.checked (Spec.alteration_checks least most) }
@@ -68,13 +81,10 @@ pub fn check_alterations(least: Angle, most: Angle) -> Result<(), Refusal>
 fn check_rate(rate: Option<RateOfTurn>) -> Result<(), Refusal>
     ensures { result ≡ Check.checked (Spec.rate_checks rate) }
 {
-    match rate {
-        None => Ok(()),
-        Some(r) => arguments::ensure(
-            elementary::error::ensure_range(r.0, SLOWEST, FASTEST),
-            Refusal::Constraints,
-        ),
-    }
+    arguments::ensure(
+        rate.is_none_or(|r| elementary::error::ensure_range(r.0, SLOWEST, FASTEST)),
+        Refusal::Constraints,
+    )
 }
 
 // The least alteration, the most, the rate of turn.
@@ -137,6 +147,17 @@ impl ManoeuvreConstraints {
         ensures { result ≡ self.most_alteration }
     {
         self.most_alteration
+    }
+
+    // The trials of a side: from the least alteration to the most.
+    pub fn trials(self) -> TrialList
+        ensures least { result.least ≡ self.least_alteration.0 }
+        ensures most { result.most ≡ self.most_alteration.0 }
+    {
+        TrialList {
+            least: self.least_alteration.0,
+            most: self.most_alteration.0,
+        }
     }
 
     // The rate of turn in degrees per minute, where one is given.

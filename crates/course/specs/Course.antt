@@ -12,7 +12,6 @@ use Rattle.elementary.specs.Refusal.{number_of}
 use Rattle.elementary.specs.declared.error.Refusal.TheVariants as Why
 use Rattle.std.specs.declared.option.Option.{Option}
 use Rattle.std.specs.declared.result.Result.{Result}
-use Rattle.course.specs.declared.Avoidance.{Avoidance}
 use Rattle.elementary.specs.declared.error.Refusal.{Refusal}
 use Rattle.motion.specs.declared.units.Direction.{Direction}
 use Rattle.motion.specs.declared.units.Distance.{Distance}
@@ -20,7 +19,7 @@ use Rattle.motion.specs.declared.vessel.Vessel.{Vessel}
 use Rattle.motion.specs.declared.vessel.Contact.{Contact}
 use Rattle.motion.specs.declared.vessel.Components.{Components}
 use Rattle.best_course.specs.declared.Best.{Best}
-use Rattle.best_course.specs.declared.Choice.{Choice}
+use Rattle.motion.specs.declared.side.BySide.{BySide}
 use Rattle.arguments.specs.Check.{zero, verdict, encounter_checks, distance_checks}
 use Rattle.motion.specs.Vessel.{unit, velocity}
 pub use Rattle.best_course.specs.Offers.{smaller}
@@ -38,13 +37,13 @@ unfoldable pub grazing : Float → Float → Float
 grazing wanted range = to_degrees (asin (clamped (wanted ⊘ range)))
 
 -- ---- own velocity is the target's less a relative speed along the track
-unfoldable pub at_speed : Float → Components → Components → Float → Choice → Choice
+unfoldable pub at_speed : Float → Components → Components → Float → BySide (Option Best) → BySide (Option Best)
 at_speed own_course target track relative_speed choice =
     let north = target.north ⊖ relative_speed ⊗ track.north in
     let east = target.east ⊖ relative_speed ⊗ track.east in
     cond (le relative_speed zero) choice (offered own_course (to_degrees (atan2 east north)) choice)
 
-unfoldable pub along : Vessel → Components → Float → Choice → Choice
+unfoldable pub along : Vessel → Components → Float → BySide (Option Best) → BySide (Option Best)
 along own target degrees choice =
     let track = unit degrees in
     let own_speed = own.speed.0 in
@@ -54,7 +53,7 @@ along own target degrees choice =
     let root = sqrt discriminant in
     cond (lt discriminant zero) choice (at_speed own.course.0 target track (projection ⊖ root) (at_speed own.course.0 target track (projection ⊕ root) choice))
 
-unfoldable pub choice_of : Vessel → Contact → Vessel → Float → Choice
+unfoldable pub choice_of : Vessel → Contact → Vessel → Float → BySide (Option Best)
 choice_of own contact target wanted =
     let aside = grazing wanted contact.range.0 in
     let away = contact.bearing.0 ⊕ half_turn in
@@ -68,27 +67,27 @@ abbrev pub is_nothing : Option Direction → Bool
 is_nothing None = true
 is_nothing (Some d) = false
 
-unfoldable pub avoidance_of : Choice → Result Avoidance Refusal
+unfoldable pub avoidance_of : BySide (Option Best) → Result (BySide (Option Direction)) Refusal
 avoidance_of choice =
     let starboard = alteration_to choice.starboard in
     let port = alteration_to choice.port in
     cond (is_nothing starboard && is_nothing port) (Err Why.NoOtherCourse) (Ok (record { starboard = starboard; port = port }))
 
 -- with accepted arguments: 9, then 10, then 11
-unfoldable pub course_for : Vessel → Contact → Vessel → Float → Result Avoidance Refusal
+unfoldable pub course_for : Vessel → Contact → Vessel → Float → Result (BySide (Option Direction)) Refusal
 course_for own contact target wanted =
     cond (le contact.range.0 wanted) (Err Why.InsideDesired)
     (cond (le own.speed.0 zero) (Err Why.NoOwnSpeed)
     (avoidance_of (choice_of own contact target wanted)))
 
-abbrev pub course_by : Result (Unit {0}) Refusal → Result Avoidance Refusal → Result Avoidance Refusal
+abbrev pub course_by : Result (Unit {0}) Refusal → Result (BySide (Option Direction)) Refusal → Result (BySide (Option Direction)) Refusal
 course_by (Ok tt) a = a
 course_by (Err why) a = Err why
 
-unfoldable pub course_answer : Vessel → Contact → Vessel → Distance → Result Avoidance Refusal
+unfoldable pub course_answer : Vessel → Contact → Vessel → Distance → Result (BySide (Option Direction)) Refusal
 course_answer own contact target desired = course_by (verdict (encounter_checks own contact target ++ distance_checks desired) (Ok tt)) (course_for own contact target desired.0)
 
 -- document 01's number of an answer, 0 where it is answered
-abbrev pub course_number : Result Avoidance Refusal → ℕ
+abbrev pub course_number : Result (BySide (Option Direction)) Refusal → ℕ
 course_number (Ok a) = 0
 course_number (Err why) = number_of why

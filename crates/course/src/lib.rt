@@ -6,19 +6,16 @@ ghost use Rattle.course.specs.Course as Spec;
 
 use best_course::{Best, Choice, offered};
 use elementary::error::Refusal;
+use motion::side::BySide;
 use motion::units::{Direction, Distance};
 use motion::vessel;
 use motion::vessel::{Components, Contact, Vessel};
 
 // The smallest alteration to either side.
-#[derive(Clone, Copy)]
-pub struct Avoidance {
-    pub starboard: Option<Direction>,
-    pub port: Option<Direction>,
-}
+pub type Avoidance = BySide<Option<Direction>>;
 
 // The course that gives a relative speed along `track`, if the speed is one.
-#[tactic(auto, unfolding(crate::specs::Course::at_speed))]
+#[tactic(auto, unfolding(crate::specs::Course::at_speed, motion::specs::Vessel::difference))]
 fn at_speed(
     own_course: f64,
     target: Components,
@@ -31,11 +28,10 @@ fn at_speed(
     if relative_speed <= 0.0 {
         return choice;
     }
-    let north = target.north - relative_speed * track.north;
-    let east = target.east - relative_speed * track.east;
+    let velocity = target - relative_speed * track;
     offered(
         own_course,
-        math::to_degrees(inverse::atan2(east, north)),
+        math::to_degrees(inverse::atan2(velocity.east, velocity.north)),
         choice,
     )
 }
@@ -47,9 +43,8 @@ fn along(own: Vessel, target: Components, degrees: f64, choice: Choice) -> Choic
 {
     let track = vessel::unit(degrees);
     let own_speed = own.speed.0;
-    let projection = target.north * track.north + target.east * track.east;
-    let target_speed_squared = target.north * target.north + target.east * target.east;
-    let discriminant = projection * projection - (target_speed_squared - own_speed * own_speed);
+    let projection = target.dot(track);
+    let discriminant = projection * projection - (target.dot(target) - own_speed * own_speed);
     if discriminant < 0.0 {
         return choice;
     }
@@ -74,15 +69,7 @@ fn choice_of(own: Vessel, contact: Contact, target: Vessel, wanted: f64) -> Choi
     let aside = grazing(wanted, contact.range.0);
     let away = contact.bearing.0 + 180.0;
     let velocity = target.velocity();
-    let first = along(
-        own,
-        velocity,
-        away - aside,
-        Choice {
-            starboard: None,
-            port: None,
-        },
-    );
+    let first = along(own, velocity, away - aside, Choice::default());
     along(own, velocity, away + aside, first)
 }
 
@@ -92,20 +79,21 @@ fn alteration_to(best: Option<Best>) -> Option<Direction>
     best.map(|kept| Direction(angle::from_degrees_wrapped(kept.course)))
 }
 
-#[tactic(auto, unfolding(crate::specs::Course::avoidance_of))]
+#[tactic(auto, unfolding(crate::specs::Course::avoidance_of, arguments::specs::Check::verdict))]
 fn avoidance_of(choice: Choice) -> Result<Avoidance, Refusal>
     ensures { result ≡ Spec.avoidance_of choice }
 {
     let starboard = alteration_to(choice.starboard);
     let port = alteration_to(choice.port);
-    if starboard.is_none() & port.is_none() {
-        return Err(Refusal::NoOtherCourse);
-    }
+    arguments::ensure(
+        starboard.is_some() || port.is_some(),
+        Refusal::NoOtherCourse,
+    )?;
     Ok(Avoidance { starboard, port })
 }
 
-// With accepted arguments.
-#[tactic(auto, unfolding(crate::specs::Course::course_for))]
+// With accepted arguments. `!(a <= b)` is not `a > b`: of what is no number it is true, as the definition has it.
+#[tactic(auto, unfolding(crate::specs::Course::course_for, arguments::specs::Check::verdict))]
 fn course_for(
     own: Vessel,
     contact: Contact,
@@ -114,12 +102,8 @@ fn course_for(
 ) -> Result<Avoidance, Refusal>
     ensures { result ≡ Spec.course_for own contact target wanted }
 {
-    if contact.range.0 <= wanted {
-        return Err(Refusal::InsideDesired);
-    }
-    if own.speed.0 <= 0.0 {
-        return Err(Refusal::NoOwnSpeed);
-    }
+    arguments::ensure(!(contact.range.0 <= wanted), Refusal::InsideDesired)?;
+    arguments::ensure(!(own.speed.0 <= 0.0), Refusal::NoOwnSpeed)?;
     avoidance_of(choice_of(own, contact, target, wanted))
 }
 

@@ -10,8 +10,10 @@ ghost use Rattle.decimal.specs.Thousandths.{thousandths_of};
 
 use math::{Parts, power_of_two};
 
-// The thousandths of 2^53, above which no f64 has a fraction.
-const MOST: u64 = 9007199254740992000;
+// 2^53, above which no f64 has a fraction, and its thousandths.
+const LIMIT: f64 = (1u64 << 53) as f64;
+
+const MOST: u64 = 1000 << 53;
 
 // n / d to the nearest whole number, ties to even.
 fn nearest(n: u64, d: u64) -> u64
@@ -46,7 +48,7 @@ pub fn thousandths(x: f64) -> u64
     ensures { result ≡ thousandths_of x }
 {
     if x > 0.0 {
-        if x < 9007199254740992.0 {
+        if x < LIMIT {
             return fraction(x);
         }
         return MOST;

@@ -3,8 +3,9 @@ use Rattle.std.specs.Prelude.{Err, Ok}
 use mathlib.Core.Path.{◌≡◌, refl, ap, ◌∙◌, subst}
 use mathlib.Core.Bool.{Bool, true, false, not, ◌&&◌, cond}
 use lib.Dec.{T}
-use lib.Ieee.{Float, nan, binary64, fits, eq}
+use lib.Ieee.{Float, nan, binary64, fits, eq, is_nan}
 use lib.Ieee.Scale.{finite}
+use Rattle.laws.proofs.Pattern.{no_nan_of_eq}
 use Rattle.math.proofs.Sign.{nan_of_eq}
 use Rattle.root.specs.Hypot.{hypot, in_domain}
 use Rattle.root.proofs.HypotBound.{hypot_is}
@@ -19,13 +20,22 @@ use Rattle.elementary.specs.declared.error.Refusal.TheVariants.{Angle}
 use Rattle.std.specs.declared.result.Result.{Result}
 use Rattle.elementary.specs.declared.error.Refusal.{Refusal}
 
-pub number_of : (x : Float) → eq x x ≡ true → Ok x ≡ number_or_refused x
-unfolding number_or_refused
-number_of x e = rw e refl
+-- a value is equal to itself just where it is no NaN
+pub number_of : (x : Float) → is_nan x ≡ false → Ok x ≡ number_or_refused x
+unfolding number_or_refused is_nan
+number_of x h = go (eq x x) refl
+  where
+    go : (b : Bool) → eq x x ≡ b → Ok x ≡ cond b (Ok x) (Err Angle)
+    go true e = refl
+    go false e = absurd (let k = ap is_nan (nan_of_eq x e) in cc)
 
-pub refused_for : (x : Float) → eq x x ≡ false → Err Angle ≡ number_or_refused x
+pub refused_for : (x : Float) → is_nan x ≡ true → Err Angle ≡ number_or_refused x
 unfolding number_or_refused
-refused_for x e = rw e refl
+refused_for x h = go (eq x x) refl
+  where
+    go : (b : Bool) → eq x x ≡ b → Err Angle ≡ cond b (Ok x) (Err Angle)
+    go true e = absurd (subst (λ n. T (not n)) h (no_nan_of_eq x e))
+    go false e = refl
 
 -- v is NaN outside the domain d, and finite in it
 answer : (d : Bool) (v : Float) → (T (not d) → v ≡ nan) → (T d → T (finite v)) → number_or_refused v ≡ cond d (Ok v) (Err Angle)

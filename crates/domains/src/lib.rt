@@ -11,10 +11,11 @@ use elementary::error::Refusal;
 fn number_or_refused(value: f64) -> Result<f64, Refusal>
     ensures { result ≡ number_or_refused value }
 {
-    if value == value {
-        return Ok(value);
+    if value.is_nan() {
+        Err(Refusal::Angle)
+    } else {
+        Ok(value)
     }
-    Err(Refusal::Angle)
 }
 
 // The hypotenuse over two finite sides of at most 2^500 in size.

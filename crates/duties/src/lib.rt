@@ -8,6 +8,7 @@ use colregs::answer::{Decision, Encounter, Responsibility, Rule};
 use facts::{Facts, Windward};
 use motion::side::Side;
 use situation::party::{Tack, VesselCategory, Visibility};
+use std::cmp::Ordering;
 
 // Rule 12(a)(ii): the windward one keeps out of the way.
 fn by_windward(windward: Windward) -> Responsibility
@@ -70,24 +71,19 @@ fn by_sails(f: Facts, rest: Decision) -> Decision
 }
 
 // Rule 18, and between vessels of one rank Rules 12, 14, 15 and 17.
+#[tactic(auto, using(crate::proofs::Duties::lower, crate::proofs::Duties::higher, crate::proofs::Duties::equal))]
 fn by_rank(e: Encounter, f: Facts) -> Decision
     ensures { result ≡ Spec.decided (Spec.by_rank e f.own f.target f.windward) }
 {
-    let own_rank = f.own.precedence();
-    let target_rank = f.target.precedence();
-    if own_rank < target_rank {
-        return Decision {
-            responsibility: Responsibility::GiveWay,
-            rule: Rule::Rule18,
-        };
+    let responsibility = match f.own.precedence().cmp(&f.target.precedence()) {
+        Ordering::Less => Responsibility::GiveWay,
+        Ordering::Greater => Responsibility::StandOn,
+        Ordering::Equal => return by_sails(f, by_geometry(e)),
+    };
+    Decision {
+        responsibility,
+        rule: Rule::Rule18,
     }
-    if target_rank < own_rank {
-        return Decision {
-            responsibility: Responsibility::StandOn,
-            rule: Rule::Rule18,
-        };
-    }
-    by_sails(f, by_geometry(e))
 }
 
 // Rule 13 before the others.

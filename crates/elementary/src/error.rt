@@ -50,8 +50,9 @@ impl Refusal {
 }
 
 // Whether a value lies from `low` to `high`, both ends included. A NaN does not.
+#[tactic(auto, unfolding(crate::specs::Range::in_range))]
 pub fn ensure_range(value: f64, low: f64, high: f64) -> bool
     ensures { result ≡ in_range low high value }
 {
-    (low <= value) & (value <= high)
+    low <= value && value <= high
 }

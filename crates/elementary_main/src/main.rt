@@ -5,17 +5,14 @@
 #![tactic(auto)]
 
 use elementary::error::Refusal;
-use replay::{Replayed, float, word};
+use replay::{Replayed, float, low_half, word};
 use std::io;
 use std::num::f64_from_bits_with_nan;
 use time::{Duration, TimeError};
 use words::pattern;
 
 fn pattern_in(r: Result<f64, Refusal>) -> u64 {
-    match r {
-        Ok(x) => pattern(x),
-        Err(why) => why.number() as u64,
-    }
+    r.map_or_else(|why| why.number() as u64, pattern)
 }
 
 // A part of a time, or what stands for the error.
@@ -30,12 +27,12 @@ fn part_in(part: Result<u64, TimeError>) -> u64 {
 fn duration(secs: u64, nanos: u64) -> Duration {
     Duration {
         secs,
-        nanos: (nanos % 4294967296) as u32,
+        nanos: low_half(nanos),
     }
 }
 
 // The functions on floats whose answer is a float, by the record's numbers. A `match`, and no table of functions: some take one float and
-// some two, and a function may not be handed out.
+// some two, so that a table would hold a closure around each of the first.
 fn number(which: u64, x: f64, y: f64) -> f64 {
     match which {
         0 => root::sqrt(x),

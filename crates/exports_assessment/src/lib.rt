@@ -19,6 +19,7 @@ use time::Duration;
 use words::{pattern, refused, word};
 
 // ---- the words of what may be missing
+// By a `match`, as in `verdict_words`: of a closure that makes an array `map_or` says nothing of what it returns (tried).
 fn nearest(p: Option<Cpa>) -> [u64; 5]
     ensures { result ≡ Spec.nearest p }
 {

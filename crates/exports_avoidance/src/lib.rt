@@ -59,7 +59,8 @@ fn ruled_words(answer: Result<RuledManoeuvre, Refusal>) -> [u64; 9]
     answer.map_or_else(refused, ruled)
 }
 
-// Whether a trial was found, its side and magnitude, the passing distance and the limiting contact.
+// Whether a trial was found, its side and magnitude, the passing distance and the limiting contact. A `match`: of a closure that makes an array
+// `map_or` says nothing of what it returns.
 fn search_words(choice: Option<Chosen>) -> [u64; 9]
     ensures { result ≡ Spec.search_words choice }
 {
@@ -131,15 +132,11 @@ pub extern "C" fn avoidance_avoid(
 pub extern "C" fn avoidance_search(part: u32, sides: u32, count: usize, floats: &[f64]) -> u64
     ensures { result ≡ get_or (Spec.search_words (Spec.search_of sides count floats.now)) part 0 }
 {
-    let may = permitted_sides(sides);
     let scene = traffic::scene_of(&traffic_of(false, count, floats));
     let own = words::vessel(codes::float_at(floats, 0), codes::float_at(floats, 1));
     let search = Search::new(own, &scene, Distance(codes::float_at(floats, 2)));
     let found = search.smallest(
-        Sides {
-            starboard: may.starboard(),
-            port: may.port(),
-        },
+        Sides::from(permitted_sides(sides)),
         TrialList {
             least: codes::float_at(floats, 3),
             most: codes::float_at(floats, 4),

@@ -5,7 +5,7 @@ use Rattle.std.specs.declared.option.Option.{Option}
 use Rattle.std.specs.declared.result.Result.{Result}
 use Rattle.elementary.specs.declared.error.Refusal.{Refusal}
 use Rattle.motion.specs.declared.units.Direction.{Direction}
-use Rattle.course.specs.declared.Avoidance.{Avoidance}
+use Rattle.motion.specs.declared.side.BySide.{BySide}
 use Rattle.words.specs.Words.{pattern, refused}
 
 abbrev pub solved : TargetSolution → List ℕ
@@ -24,9 +24,9 @@ abbrev pub course : Option Direction → ℕ
 course None = 0
 course (Some d) = pattern d.0
 
-abbrev pub altered : Avoidance → List ℕ
+abbrev pub altered : BySide (Option Direction) → List ℕ
 altered a = 0 ∷ presence a.starboard ∷ course a.starboard ∷ presence a.port ∷ course a.port ∷ 0 ∷ []
 
-abbrev pub course_words : Result Avoidance Refusal → List ℕ
+abbrev pub course_words : Result (BySide (Option Direction)) Refusal → List ℕ
 course_words (Ok a) = altered a
 course_words (Err why) = refused 6 why

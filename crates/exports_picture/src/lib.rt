@@ -73,7 +73,8 @@ fn picture_of(
     p
 }
 
-// The risk of a rank. A table, and no `From`: that a code above 3 is the highest is the C interface's, and not the risks'.
+// The risk of a rank. A table, and no `From` as of `Visibility`, whose code a sheet has too: that a code above 3 is the highest is the C
+// interface's alone.
 #[tactic(auto, unfolding(crate::specs::Words::risk_of))]
 fn risk_of(code: u32) -> CollisionRisk
     ensures { result ≡ Spec.risk_of code }

@@ -10,6 +10,7 @@ use motion::vessel::{Components, Contact, Vessel};
 use situation::party::{Situation, VesselCategory, Visibility};
 
 // Which of two sailing vessels is to windward of the other.
+// Three values and no `Option`: each, the unknown one too, has a duty of its own in `duties::by_windward`.
 #[derive(Clone, Copy)]
 pub enum Windward {
     Unknown,
@@ -45,23 +46,16 @@ fn aspect_of(contact: Contact, heading: Direction) -> f64
     angle::wrap180(contact.bearing.0 + 180.0 - heading.0)
 }
 
-#[tactic(auto, unfolding(crate::specs::Facts::speed_of))]
-fn speed_of(v: Components) -> f64
-    ensures { result ≡ Spec.speed_of v }
-{
-    root::hypot(v.north, v.east)
-}
-
 // How fast the range grows along a line of sight.
-#[tactic(auto, unfolding(crate::specs::Facts::range_rate))]
+#[tactic(auto, unfolding(crate::specs::Facts::range_rate, motion::specs::Vessel::difference))]
 fn range_rate(line: Components, own: Components, target: Components) -> f64
     ensures { result ≡ Spec.range_rate line own target }
 {
-    line.north * (target.north - own.north) + line.east * (target.east - own.east)
+    line.dot(target - own)
 }
 
 // Whether the range closes; a rate within rounding of zero is neither closing nor opening.
-#[tactic(auto, unfolding(crate::specs::Facts::is_closing))]
+#[tactic(auto, unfolding(crate::specs::Facts::is_closing, crate::specs::Facts::speed_of))]
 pub fn is_closing(contact: Contact, own: Vessel, target: Vessel) -> bool
     ensures { result ≡ Spec.is_closing contact own target }
 {
@@ -69,7 +63,7 @@ pub fn is_closing(contact: Contact, own: Vessel, target: Vessel) -> bool
     let own_velocity = own.velocity();
     let target_velocity = target.velocity();
     let rate = range_rate(line, own_velocity, target_velocity);
-    let scale = math::larger(speed_of(own_velocity), speed_of(target_velocity));
+    let scale = math::larger(own_velocity.size(), target_velocity.size());
     let tangential = math::is_effectively_zero(rate, scale);
     rate < 0.0 && !tangential
 }
@@ -78,16 +72,14 @@ pub fn is_closing(contact: Contact, own: Vessel, target: Vessel) -> bool
 fn windward_of(contact: Contact, wind: Option<Direction>) -> Windward
     ensures { result ≡ Spec.windward_of contact wind }
 {
-    match wind {
-        None => Windward::Unknown,
-        Some(from) => {
-            let downwind = angle::wrap180(contact.bearing.0 - (from.0 + 180.0));
-            if math::abs(downwind) < 90.0 {
-                return Windward::Own;
-            }
+    wind.map_or(Windward::Unknown, |from| {
+        let downwind = angle::wrap180(contact.bearing.0 - (from.0 + 180.0));
+        if math::abs(downwind) < 90.0 {
+            Windward::Own
+        } else {
             Windward::Target
         }
-    }
+    })
 }
 
 // The facts of a situation, from the bearing, the headings and the velocities.

@@ -8,7 +8,6 @@ use native.Mathlib.Nat.{div-le_self, mul-le-mul, mul-le-mul_left, mul-le-mul_rig
 use native.Mathlib.Omega.{arith}
 use lib.Dec.{T, T_not, leb, leb→le, nleb→lt, le→leb, lit<}
 use Rattle.series.specs.Taylor.{num, den, cosine_divisors, cosine_num, cosine_den}
-use Rattle.series.specs.Units.{square}
 use Rattle.series_laws.proofs.Near.{Near, near_mul}
 use Rattle.series_laws.proofs.Horner.{AtLeast, num-le-den, horner-le, horner_near, exact_le}
 use Rattle.series_laws.proofs.Values.{square-small, cosine_at_least}

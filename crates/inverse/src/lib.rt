@@ -21,9 +21,7 @@ const STEP: f64 = 1.7763568394002505e-15;
 // Half pi in steps.
 const HALF_PI: u64 = 884279719003555;
 
-// The smallest normal f64, and 2^54, which makes any other but 0 a normal one.
-const NORMAL: f64 = 2.2250738585072014e-308;
-
+// 2^54, which makes any f64 but 0 that is below the normal ones a normal one.
 const RAISE: f64 = 18014398509481984.0;
 
 // The size of a finite f64.
@@ -84,7 +82,7 @@ fn octant(u: Magnitude, v: Magnitude) -> u64
     requires { (0 < units_of u.value) × (units_of v.value ≤ units_of u.value) }
     ensures { (result ≡ Atan2.octant (units_of u.value) (units_of v.value)) × (result ≤ last_step) }
 {
-    if u.value < NORMAL {
+    if u.value < f64::MIN_POSITIVE {
         return normal_octant(u.raised(), v.raised());
     }
     normal_octant(u, v)
@@ -131,12 +129,9 @@ fn angle(left: bool, a: Magnitude, b: Magnitude) -> u64
 pub fn atan2(y: f64, x: f64) -> f64
     ensures { result ≡ Atan2.atan2 y x }
 {
-    if math::is_finite(y) {
-        if math::is_finite(x) {
-            let t = angle(x < 0.0, Magnitude::of(x), Magnitude::of(y));
-            return math::multiple(y < 0.0, t, STEP);
-        }
-        return 0.0 / 0.0;
+    if math::is_finite(y) && math::is_finite(x) {
+        let t = angle(x < 0.0, Magnitude::of(x), Magnitude::of(y));
+        return math::multiple(y < 0.0, t, STEP);
     }
-    0.0 / 0.0
+    f64::NAN
 }

@@ -1,6 +1,7 @@
 -- The lines that the encounter sheet's program prints, field by field, after document 01, 'Encounter sheet and its program', from 'It prints' on.
-use Rattle.std.specs.Prelude.{List, [], ◌∷◌, ℕ}
-use Rattle.text.specs.Text.{bytes}
+use Rattle.std.specs.Prelude.{List, [], ◌∷◌, ℕ, Err, Ok}
+use Rattle.std.specs.declared.result.Result.{Result}
+use Rattle.text.specs.Text.{bytes, appended}
 use Rattle.text.specs.Decimal.{decimal_of}
 use Rattle.text.specs.Line.{line}
 use Rattle.fields.specs.Fields.{quantity_field, approach_field, distance_of, seconds_field, risk_field}
@@ -44,3 +45,8 @@ alter_line m id =
 -- '`REFUSED n`'
 unfoldable pub refused_line : Refusal → List ℕ
 refused_line why = line (bytes "REFUSED" ∷ decimal_of (number_of why) ∷ [])
+
+-- what is printed up to an answer, and after it the line on a refusal where the answer is one
+abbrev pub with_refusal : List ℕ → Result (Unit {0}) Refusal → List ℕ
+with_refusal printed (Ok tt) = printed
+with_refusal printed (Err why) = appended printed (refused_line why)

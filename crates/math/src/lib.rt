@@ -89,8 +89,7 @@ pub fn larger(a: f64, b: f64) -> f64
 pub fn to_usize(value: f64) -> usize
     ensures { result ≡ Cast.to_usize value }
 {
-    let counted = (value >= 0.0) & (value <= 1e9);
-    if counted {
+    if value >= 0.0 && value <= 1e9 {
         std::num::saturating_f64_to_usize(value)
     } else {
         0

@@ -5,12 +5,12 @@
 // made is said in docs/COMPARISON.md.
 #![tactic(auto)]
 
-use replay::{Replayed, float, word};
+use replay::{Replayed, float, low_half, word};
 use std::io;
 
 // The low half of word i.
 fn code(record: &[u8], i: usize) -> u32 {
-    (word(record, i) % 4294967296) as u32
+    low_half(word(record, i))
 }
 
 fn ruling(record: &[u8], part: u32) -> u64 {
@@ -81,7 +81,7 @@ impl Replayed for Module {
         let range = float(record, 5);
         let tc = float(record, 6);
         let ts = float(record, 7);
-        // By the record's numbers. A `match`, and no table of functions: no two take the same arguments.
+        // By the record's numbers. A `match`, and no table of functions: but for three (0, 1 and 3) no two take the same arguments.
         match word(record, 0) {
             0 => exports_motion::motion_cpa(part, oc, os, bearing, range, tc, ts),
             1 => exports_motion::motion_passing(part, oc, os, bearing, range, tc, ts),

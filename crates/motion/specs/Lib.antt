@@ -1,3 +1,4 @@
 -- Vessels and contacts.
 pub mod Held
+pub mod Sides
 pub mod Vessel

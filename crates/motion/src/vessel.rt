@@ -3,6 +3,7 @@ ghost use Rattle.std.specs.Prelude.{◌≡◌};
 ghost use Rattle.motion.specs.Vessel as Spec;
 
 use crate::units::{Direction, Distance, Speed};
+use std::ops::{Add, Div, Mul, Sub};
 
 // Course and speed of a vessel.
 #[derive(Clone, Copy, Default)]
@@ -25,6 +26,95 @@ pub struct Components {
     pub east: f64,
 }
 
+impl Components {
+    // How long it is.
+    pub fn size(self) -> f64
+        ensures { result ≡ Spec.size self }
+    {
+        root::hypot(self.north, self.east)
+    }
+
+    // The inner product, how far it goes along `other` times the other's size.
+    pub fn dot(self, other: Components) -> f64
+        ensures { result ≡ Spec.dot self other }
+    {
+        self.north * other.north + self.east * other.east
+    }
+
+    // The outer product, positive where `other` is to starboard.
+    pub fn cross(self, other: Components) -> f64
+        ensures { result ≡ Spec.cross self other }
+    {
+        self.north * other.east - self.east * other.north
+    }
+}
+
+impl Add for Components {
+    type Output = Components;
+
+    ghost add_gives = { λ a b r. r ≡ Spec.sum a b };
+
+    fn add(self, rhs: Components) -> Components {
+        Components {
+            north: self.north + rhs.north,
+            east: self.east + rhs.east,
+        }
+    }
+}
+
+impl Sub for Components {
+    type Output = Components;
+
+    ghost sub_gives = { λ a b r. r ≡ Spec.difference a b };
+
+    #[tactic(auto, unfolding(crate::specs::Vessel::difference))]
+    fn sub(self, rhs: Components) -> Components {
+        Components {
+            north: self.north - rhs.north,
+            east: self.east - rhs.east,
+        }
+    }
+}
+
+impl Mul<f64> for Components {
+    type Output = Components;
+
+    ghost mul_gives = { λ c k r. r ≡ Spec.times c k };
+
+    fn mul(self, rhs: f64) -> Components {
+        Components {
+            north: self.north * rhs,
+            east: self.east * rhs,
+        }
+    }
+}
+
+impl Mul<Components> for f64 {
+    type Output = Components;
+
+    ghost mul_gives = { λ k c r. r ≡ Spec.scaled k c };
+
+    fn mul(self, rhs: Components) -> Components {
+        Components {
+            north: self * rhs.north,
+            east: self * rhs.east,
+        }
+    }
+}
+
+impl Div<f64> for Components {
+    type Output = Components;
+
+    ghost div_gives = { λ c k r. r ≡ Spec.divided c k };
+
+    fn div(self, rhs: f64) -> Components {
+        Components {
+            north: self.north / rhs,
+            east: self.east / rhs,
+        }
+    }
+}
+
 // One, in a direction of so many degrees.
 #[tactic(auto, unfolding(crate::specs::Vessel::unit))]
 pub fn unit(degrees: f64) -> Components
@@ -42,11 +132,7 @@ pub fn unit(degrees: f64) -> Components
 fn resolved(size: f64, direction: Direction) -> Components
     ensures { result ≡ Spec.resolved size direction }
 {
-    let u = unit(direction.0);
-    Components {
-        north: size * u.north,
-        east: size * u.east,
-    }
+    size * unit(direction.0)
 }
 
 // The direction of a velocity or an offset.
@@ -73,7 +159,7 @@ impl Vessel {
     {
         Vessel {
             course: direction_of(velocity),
-            speed: Speed(root::hypot(velocity.north, velocity.east)),
+            speed: Speed(velocity.size()),
         }
     }
 }
@@ -88,21 +174,10 @@ impl Contact {
     }
 }
 
-// a less b.
-#[tactic(auto, unfolding(crate::specs::Vessel::difference))]
-pub fn difference(a: Components, b: Components) -> Components
-    ensures { result ≡ Spec.difference a b }
-{
-    Components {
-        north: a.north - b.north,
-        east: a.east - b.east,
-    }
-}
-
 // The target's velocity as seen from own craft.
 #[tactic(auto, unfolding(crate::specs::Vessel::relative_velocity))]
 pub fn relative_velocity(own: Vessel, target: Vessel) -> Components
     ensures { result ≡ Spec.relative_velocity own target }
 {
-    difference(target.velocity(), own.velocity())
+    target.velocity() - own.velocity()
 }

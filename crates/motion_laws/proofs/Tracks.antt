@@ -35,7 +35,7 @@ use Rattle.arguments.specs.Check as Check
 use Rattle.motion.specs.declared.vessel.Vessel.{Vessel}
 use Rattle.motion.specs.declared.vessel.Components.{Components}
 use Rattle.best_course.specs.declared.Best.{Best}
-use Rattle.best_course.specs.declared.Choice.{Choice}
+use Rattle.motion.specs.declared.side.BySide.{BySide}
 use Rattle.motion.specs.Vessel.{unit, velocity}
 use Rattle.std.specs.declared.result.Result.{Result}
 use Rattle.elementary.specs.declared.error.Refusal.{Refusal}
@@ -225,7 +225,7 @@ abbrev FiniteBest : Option Best → Type 0
 FiniteBest None = Unit {0}
 FiniteBest (Some b) = T (finite b.course)
 
-abbrev FiniteChoice : Choice → Type 0
+abbrev FiniteChoice : BySide (Option Best) → Type 0
 FiniteChoice c = FiniteBest c.starboard × FiniteBest c.port
 
 better : (b : Bool) (p q : Option Best) → FiniteBest p → FiniteBest q → FiniteBest (cond b p q)
@@ -236,7 +236,7 @@ smaller-finite : (best : Option Best) (a c : Float) → FiniteBest best → T (f
 smaller-finite None a c f h = h
 smaller-finite (Some b) a c f h = better (lt a b.alteration) (Some (offer a c)) (Some b) h f
 
-offered-finite : (own course : Float) (choice : Choice) → T (finite course) → FiniteChoice choice → FiniteChoice (offered own course choice)
+offered-finite : (own course : Float) (choice : BySide (Option Best)) → T (finite course) → FiniteChoice choice → FiniteChoice (offered own course choice)
 unfolding offered
 offered-finite own course choice h f = go (lt Check.zero (half_fold (course ⊖ own))) (lt (half_fold (course ⊖ own)) Check.zero)
   where
@@ -246,7 +246,7 @@ offered-finite own course choice h f = go (lt Check.zero (half_fold (course ⊖ 
     go false false = (f.0, f.1)
 
 -- either of two choices
-either : (b : Bool) (p q : Choice) → FiniteChoice p → FiniteChoice q → FiniteChoice (cond b p q)
+either : (b : Bool) (p q : BySide (Option Best)) → FiniteChoice p → FiniteChoice q → FiniteChoice (cond b p q)
 either true p q f g = f
 either false p q f g = g
 
@@ -256,7 +256,7 @@ unfolding unit
 track_small degrees t f h = let r = wide_radians degrees t f h in (cos-small (to_radians degrees) r.held (in-sine-domain r), sin-small (to_radians degrees) r.held (in-sine-domain r))
 
 module _ (own : Vessel) (target : Components) (speed : Small 10 0 own.speed.0) (north : Small 10 0 target.north) (east : Small 10 0 target.east) where
-  at_speed-finite : (track : Components) (v : Float) (choice : Choice) → Small 0 0 track.north → Small 0 0 track.east → Small 13 0 v → FiniteChoice choice → FiniteChoice (at_speed own.course.0 target track v choice)
+  at_speed-finite : (track : Components) (v : Float) (choice : BySide (Option Best)) → Small 0 0 track.north → Small 0 0 track.east → Small 13 0 v → FiniteChoice choice → FiniteChoice (at_speed own.course.0 target track v choice)
   unfolding at_speed
   at_speed-finite track v choice tn te sv f =
       let n = sub_small {p = 13} {q = 0} (lit≤ tt) (lit< tt) (weaken 13 0 (lit≤ tt) north) (mul_small {p = 13} {q = 0} {r = 0} {t = 0} (lit≤ tt) (lit< tt) sv tn) in
@@ -280,7 +280,7 @@ module _ (own : Vessel) (target : Components) (speed : Small 10 0 own.speed.0) (
         (sub_small {p = 22} {q = 0} (lit≤ tt) (lit< tt) (mul_small {p = 11} {q = 0} {r = 11} {t = 0} (lit≤ tt) (lit< tt) projection_small projection_small)
         (sub_small {p = 21} {q = 0} (lit≤ tt) (lit< tt) (add_small {p = 20} {q = 0} (lit≤ tt) (lit< tt) (mul_small {p = 10} {q = 0} {r = 10} {t = 0} (lit≤ tt) (lit< tt) north north) (mul_small {p = 10} {q = 0} {r = 10} {t = 0} (lit≤ tt) (lit< tt) east east)) (weaken 21 0 (lit≤ tt) (mul_small {p = 10} {q = 0} {r = 10} {t = 0} (lit≤ tt) (lit< tt) speed speed))))
 
-    by_discriminant : (choice : Choice) → FiniteChoice choice → (b : Bool) → lt discriminant Check.zero ≡ b
+    by_discriminant : (choice : BySide (Option Best)) → FiniteChoice choice → (b : Bool) → lt discriminant Check.zero ≡ b
         → FiniteChoice (cond b choice (at_speed own.course.0 target track (projection ⊖ sqrt discriminant) (at_speed own.course.0 target track (projection ⊕ sqrt discriminant) choice)))
     by_discriminant choice f true e = f
     by_discriminant choice f false e =
@@ -289,7 +289,7 @@ module _ (own : Vessel) (target : Components) (speed : Small 10 0 own.speed.0) (
         at_speed-finite track (projection ⊖ sqrt discriminant) (at_speed own.course.0 target track (projection ⊕ sqrt discriminant) choice) tn te (sub_small {p = 12} {q = 0} (lit≤ tt) (lit< tt) p r)
         (at_speed-finite track (projection ⊕ sqrt discriminant) choice tn te (add_small {p = 12} {q = 0} (lit≤ tt) (lit< tt) p r) f)
 
-  along-finite : (degrees : Float) (choice : Choice) → T (fits binary64 degrees) → T (finite degrees) → units_of degrees ≤ 668 * 2 ^ 1074 → FiniteChoice choice → FiniteChoice (along own target degrees choice)
+  along-finite : (degrees : Float) (choice : BySide (Option Best)) → T (fits binary64 degrees) → T (finite degrees) → units_of degrees ≤ 668 * 2 ^ 1074 → FiniteChoice choice → FiniteChoice (along own target degrees choice)
   unfolding along
   along-finite degrees choice td fd most f = let u = track_small degrees td fd most in by_discriminant (unit degrees) u.0 u.1 choice f (lt (discriminant (unit degrees) u.0 u.1) Check.zero) refl
 
@@ -298,7 +298,7 @@ alteration_finite : (b : Option Best) → FiniteBest b → FiniteAlteration (alt
 alteration_finite None f = tt
 alteration_finite (Some b) f = whole_fold_range b.course f
 
-avoidance_finite : (choice : Choice) → FiniteChoice choice → FiniteCourse (avoidance_of choice)
+avoidance_finite : (choice : BySide (Option Best)) → FiniteChoice choice → FiniteCourse (avoidance_of choice)
 unfolding avoidance_of
 avoidance_finite choice f = go (is_nothing (alteration_to choice.starboard) && is_nothing (alteration_to choice.port))
   where

@@ -9,7 +9,7 @@ use Rattle.angle.specs.Fold.{IsDirection, IsDifference}
 use Rattle.time.specs.Clock.{seconds_per_hour, clock, nanos_in, from_hours}
 use Rattle.std.specs.declared.option.Option.{Option}
 use Rattle.std.specs.declared.result.Result.{Result}
-use Rattle.course.specs.declared.Avoidance.{Avoidance}
+use Rattle.motion.specs.declared.side.BySide.{BySide}
 use Rattle.elementary.specs.declared.error.Refusal.{Refusal}
 use Rattle.motion.specs.declared.units.Direction.{Direction}
 use Rattle.motion.specs.declared.units.Distance.{Distance}
@@ -71,7 +71,7 @@ abbrev pub FiniteAlteration : Option Direction → Type 0
 FiniteAlteration None = Unit {0}
 FiniteAlteration (Some d) = IsDirection d.0
 
-abbrev pub FiniteCourse : Result Avoidance Refusal → Type 0
+abbrev pub FiniteCourse : Result (BySide (Option Direction)) Refusal → Type 0
 FiniteCourse (Ok a) = FiniteAlteration a.starboard × FiniteAlteration a.port
 FiniteCourse (Err why) = Unit {0}
 

@@ -4,10 +4,10 @@
 #![tactic(auto)]
 
 ghost use Rattle.std.specs.Prelude.{◌≡◌};
+ghost use Rattle.motion.specs.Vessel as Motion;
 ghost use Rattle.passages.specs.Passages as Spec;
 
 use motion::units::Distance;
-use motion::vessel;
 use motion::vessel::{Components, Contact, Vessel};
 use relative_motion::approach::{Pass, Relative};
 
@@ -18,7 +18,8 @@ pub struct Target {
     pub vessel: Vessel,
 }
 
-// The same by its range, and by the north and east parts of its offset and its velocity.
+// The same by its range, and by the north and east parts of its offset and its velocity. Apart from `Relative`, which has these fields: this
+// velocity is the target's own, the same for every course that is tried, and that one is relative to own craft.
 #[derive(Clone, Copy, Default)]
 pub struct Moving {
     pub range: Distance,
@@ -26,50 +27,54 @@ pub struct Moving {
     pub velocity: Components,
 }
 
-// A target's parts, worked out.
-#[tactic(auto, unfolding(crate::specs::Passages::moving))]
-pub fn moving_of(target: Target) -> Moving
-    ensures { result ≡ Spec.moving target }
-{
-    let offset = target.contact.offset();
-    let velocity = target.vessel.velocity();
-    Moving {
-        range: target.contact.range,
-        offset,
-        velocity,
+impl Moving {
+    // The target, seen from own craft at a velocity.
+    pub fn seen_from(self, own: Components) -> Relative
+        ensures range { result.range ≡ self.range }
+        ensures offset { result.offset ≡ self.offset }
+        ensures velocity { result.velocity ≡ Motion.difference self.velocity own }
+    {
+        Relative {
+            range: self.range,
+            offset: self.offset,
+            velocity: self.velocity - own,
+        }
     }
 }
 
-#[tactic(auto, using(crate::proofs::Steps::blocked, crate::proofs::Steps::closes, crate::proofs::Steps::opens, crate::proofs::Steps::stays))]
+// A target's parts, worked out.
+impl From<Target> for Moving {
+    ghost from_gives = { λ target result. result ≡ Spec.moving target };
+
+    #[tactic(auto, unfolding(crate::specs::Passages::moving))]
+    fn from(target: Target) -> Moving {
+        let offset = target.contact.offset();
+        let velocity = target.vessel.velocity();
+        Moving {
+            range: target.contact.range,
+            offset,
+            velocity,
+        }
+    }
+}
+
 fn passed(pass: Pass, floor: f64) -> Option<Distance>
     ensures { result ≡ Spec.passed floor pass }
 {
     match pass {
-        Pass::Closing(d) => {
-            if d.0 < floor {
-                return None;
-            }
-            Some(d)
-        }
-        Pass::Opening(range) => Some(range),
-        Pass::Stationary(range) => Some(range),
+        Pass::Closing(d) if d.0 < floor => None,
+        Pass::Closing(d) | Pass::Opening(d) | Pass::Stationary(d) => Some(d),
     }
 }
 
 // A contact that does not close passes at its range, and costs no root and no division.
-#[tactic(auto, using(crate::proofs::Steps::passes, crate::proofs::Steps::passes_at_range))]
+#[tactic(auto, unfolding(crate::specs::Passages::passage_at))]
 pub fn passage_of(own: Components, m: Moving, floor: f64) -> Option<Distance>
     ensures { result ≡ Spec.passage_at own floor m }
 {
-    let relative = vessel::difference(m.velocity, own);
-    let rate = m.offset.north * relative.north + m.offset.east * relative.east;
-    if rate >= 0.0 {
+    let seen = m.seen_from(own);
+    if seen.range_rate() >= 0.0 {
         return Some(m.range);
     }
-    let seen = Relative {
-        range: m.range,
-        offset: m.offset,
-        velocity: relative,
-    };
     passed(seen.passing(), floor)
 }

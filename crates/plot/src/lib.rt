@@ -24,11 +24,7 @@ pub struct TargetSolution {
 fn relative_motion(first: Contact, second: Contact, interval: f64) -> Components
     ensures { result ≡ Spec.relative_motion first second interval }
 {
-    let moved = vessel::difference(second.offset(), first.offset());
-    Components {
-        north: moved.north / interval,
-        east: moved.east / interval,
-    }
+    (second.offset() - first.offset()) / interval
 }
 
 // The vessel that moves so relative to own craft.
@@ -36,11 +32,7 @@ fn relative_motion(first: Contact, second: Contact, interval: f64) -> Components
 fn target_of(own: Vessel, relative: Components) -> Vessel
     ensures { result ≡ Spec.target_of own relative }
 {
-    let v = own.velocity();
-    Vessel::from_velocity(Components {
-        north: relative.north + v.north,
-        east: relative.east + v.east,
-    })
+    Vessel::from_velocity(relative + own.velocity())
 }
 
 #[tactic(auto, unfolding(crate::specs::Plot::solution))]
@@ -52,7 +44,7 @@ fn solution(own: Vessel, second: Contact, relative: Components) -> TargetSolutio
     TargetSolution {
         vessel: target,
         relative_course: vessel::direction_of(relative),
-        relative_speed: Speed(root::hypot(relative.north, relative.east)),
+        relative_speed: Speed(relative.size()),
         aspect: Angle(angle::wrap180(from_target - target.course.0)),
     }
 }

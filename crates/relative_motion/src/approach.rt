@@ -28,8 +28,8 @@ pub enum Approach {
     Stationary { range: Distance },
 }
 
-// An approach without its time and bearing: the distance of the closest point, or the range now. A type of its own: one with a parameter for
-// what a closing contact has would make `Approach` an `Approach<Cpa>` wherever it is named.
+// An approach without its time and bearing: the distance of the closest point, or the range now. A type of its own: were it an
+// `Approach` with a parameter for what a closing contact has, the definitions, whose types have no defaults, would all say `Approach Cpa`.
 #[derive(Clone, Copy)]
 pub enum Pass {
     Closing(Distance),
@@ -79,33 +79,32 @@ impl Relative {
         }
     }
 
+    // How fast the range grows, times the range: negative where it closes.
+    #[tactic(auto, unfolding(crate::specs::Approach::closing_rate))]
+    pub fn range_rate(self) -> f64
+        ensures { result ≡ Spec.closing_rate self.offset self.velocity }
+    {
+        self.offset.dot(self.velocity)
+    }
+
     // The contact's track.
     #[tactic(auto, unfolding(crate::specs::Approach::track, crate::specs::Approach::relative_speed, crate::specs::Approach::time_of, crate::specs::Approach::closing_rate, crate::specs::Approach::closest))]
     fn track(self) -> Track
         ensures { result ≡ Spec.track self.offset self.velocity }
     {
-        let Relative {
-            offset,
-            velocity,
-            ..
-        } = self;
-        let relative_speed = root::hypot(velocity.north, velocity.east);
+        let relative_speed = self.velocity.size();
         if relative_speed < STATIONARY_KNOTS {
             return Track::Stationary;
         }
-        let closing_rate = offset.north * velocity.north + offset.east * velocity.east;
-        let hours = -closing_rate / (relative_speed * relative_speed);
+        let hours = -self.range_rate() / (relative_speed * relative_speed);
         if hours <= 0.0 {
             return Track::Opening;
         }
-        let closest = Components {
-            north: offset.north + velocity.north * hours,
-            east: offset.east + velocity.east * hours,
-        };
+        let closest = self.offset + self.velocity * hours;
         Track::Closing {
             hours,
             closest,
-            distance: Distance(root::hypot(closest.north, closest.east)),
+            distance: Distance(closest.size()),
         }
     }
 

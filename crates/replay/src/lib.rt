@@ -2,7 +2,7 @@
 // Rust's answers read (docs/COMPARISON.md).
 #![tactic(auto)]
 
-ghost use Rattle.std.specs.Prelude.{◌≡◌, ℕ, List, length, get_or, IfOk, OnOk, true, false};
+ghost use Rattle.std.specs.Prelude.{◌≡◌, ℕ, ◌%◌, ◌^◌, List, length, get_or, IfOk, OnOk, true, false};
 ghost use Rattle.std.specs.Float.{binary64};
 ghost use Rattle.std.specs.Float.Ieee.{of_bits};
 ghost use Rattle.std.specs.Io.KnownBytes.{Appends};
@@ -38,6 +38,13 @@ pub fn float(bytes: &[u8], i: usize) -> f64
     ensures { result ≡ of_bits binary64 (get_or (Spec.words bytes.now) i 0) }
 {
     f64_from_bits_with_nan(word(bytes, i))
+}
+
+// The low half of a word.
+pub fn low_half(word: u64) -> u32
+    ensures { result ≡ word % 2 ^ 32 }
+{
+    (word % (1 << 32)) as u32
 }
 
 fn put<W: Write>(output: &mut W, v: u64) -> io::Result<()>

@@ -31,7 +31,11 @@ use Rattle.lines_laws.proofs.Short.{contact_short, alter_short, refused_short}
 use Rattle.contact_lines.specs.Contacts.{line_by, line_on, contact_lines}
 use Rattle.constraints.specs.declared.ManoeuvreConstraints.{ManoeuvreConstraints}
 use Rattle.sheet_record.specs.declared.Header.{Header}
-use Rattle.report.specs.Report.{id_at, answer_line, answer_on, lines_by, lines_on, policy_on, constraints_on}
+use Rattle.sheet_record.specs.Record.{header_of, rows_of}
+use Rattle.sheet_record.proofs.Filling.{few-rows}
+use Rattle.sheet_words.specs.Word.{words}
+use Rattle.sheet.specs.Sheet.{sheet_verdict}
+use Rattle.report.specs.Report.{id_at, answer_line, answer_on, lines_by, lines_on, policy_on, constraints_on, by_verdict, report}
 
 by_short : (id : ℕ) (p : CpaPolicy) (a : Result Approach Refusal) (r : Result Ruling Refusal) → length (line_by id p a r) ≤ 129
 by_short id p (Ok a) (Ok r) = contact_short id a (risk_of p (nearest a)) r
@@ -54,7 +58,7 @@ module _ (own : Party) (visibility : Visibility) (wind : Option Direction) (poli
   contacts_short [] = lit≤ tt
   contacts_short (r ∷ rs) = omega (arith, length-append (line_on own visibility wind policy r) (contact_lines own visibility wind policy rs), line_short r, contacts_short rs)
 
-pub lines_fit : (h : Header) (rs : List Row) → length rs ≤ max_contacts → length (lines_on h rs) ≤ room
+lines_fit : (h : Header) (rs : List Row) → length rs ≤ max_contacts → length (lines_on h rs) ≤ room
 unfolding lines_on
 lines_fit h rs few = by (policy_on h) (constraints_on h)
   where
@@ -66,9 +70,14 @@ lines_fit h rs few = by (policy_on h) (constraints_on h)
     by (Ok p) (Err why) = omega (arith, refused_short why)
     by (Err why) c = omega (arith, refused_short why)
 
-pub refusal_fits : (why : Refusal) → length (refused_line why) ≤ room
-refusal_fits why = omega (arith, refused_short why)
+pub report_fits : (s : List ℕ) → length (report s) ≤ room
+unfolding report
+report_fits s = by (sheet_verdict s)
+  where
+    by : (v : Result (Unit {0}) Refusal) → length (by_verdict v (lines_on (header_of (words s)) (rows_of (words s)))) ≤ room
+    by (Ok tt) = lines_fit (header_of (words s)) (rows_of (words s)) (few-rows (words s))
+    by (Err why) = omega (arith, refused_short why)
 
--- what fits is the whole of a text that had nothing before
-pub alone : (t u lines : List ℕ) → length lines ≤ room → t ≡ [] → u ≡ appended t lines → u ≡ lines
-alone t u lines fits et eu = eu ∙ ap (λ t. appended t lines) et ∙ whole [] lines (omega (arith, fits))
+-- so that it is the whole of a text that had nothing before
+pub printed : (s t u : List ℕ) → t ≡ [] → u ≡ appended t (report s) → u ≡ report s
+printed s t u et eu = eu ∙ ap (λ t. appended t (report s)) et ∙ whole [] (report s) (omega (arith, report_fits s))

@@ -3,6 +3,7 @@
 
 ghost use Rattle.std.specs.Prelude.{◌≡◌};
 ghost use Rattle.text.specs.Text.{appended};
+ghost use Rattle.lines.specs.Lines.{with_refusal};
 ghost use Rattle.report.specs.Report as Spec;
 
 use arrayvec::ArrayVec;
@@ -15,16 +16,6 @@ use sheet_limits::{constraints_on, id_at, policy_on};
 use sheet_record::{Header, Row};
 use sheet_values::scaled;
 use text::Text;
-
-// The line on the ruled search's answer.
-fn put_answer(t: &mut Text, rows: &[Row], answer: Result<RuledManoeuvre, Refusal>)
-    ensures { t.new ≡ appended t.old (Spec.answer_line rows.now answer) }
-{
-    match answer {
-        Ok(m) => lines::alter_line(t, m, id_at(rows, m.limiting)),
-        Err(why) => lines::refused_line(t, why),
-    }
-}
 
 // The ruled search on a sheet.
 fn answer_on(
@@ -40,32 +31,30 @@ fn answer_on(
     ruled::ruled_search(around, &t, desired, c)
 }
 
-// The lines on a sheet that is accepted.
-#[tactic(auto, using(text::proofs::Appending::appended_twice), unfolding(crate::specs::Report::lines_on, sheet_values::specs::Values::circumstances_of))]
-fn lines_on(t: &mut Text, h: Header, rows: &ArrayVec<Row, MAX_CONTACTS>)
-    ensures { t.new ≡ appended t.old (Spec.lines_on h rows.now.items) }
+// The lines on a sheet, up to the first answer that is a refusal.
+#[tactic(auto, using(text::proofs::Appending::appended_twice), unfolding(crate::specs::Report::report, crate::specs::Report::lines_on, sheet_values::specs::Values::circumstances_of))]
+fn put_lines(t: &mut Text, bytes: &[u8]) -> Result<(), Refusal>
+    ensures { with_refusal t.new result ≡ appended t.old (Spec.report bytes.now) }
 {
-    match (policy_on(h), constraints_on(h)) {
-        (Ok(p), Ok(c)) => {
-            contact_lines::put_rows(t, sheet_values::circumstances_of(h), p, rows);
-            put_answer(t, rows, answer_on(h, rows, c));
-        }
-        (Ok(_), Err(why)) | (Err(why), _) => lines::refused_line(t, why),
-    }
+    sheet::check_sheet(bytes)?;
+    let h = sheet_record::header_of(bytes);
+    let rows = sheet_record::rows_of(bytes);
+    let policy = policy_on(h)?;
+    let c = constraints_on(h)?;
+    contact_lines::put_rows(t, sheet_values::circumstances_of(h), policy, &rows);
+    let m = answer_on(h, &rows, c)?;
+    lines::alter_line(t, m, id_at(&rows, m.limiting));
+    Ok(())
 }
 
 // What the encounter program prints for a sheet.
+#[tactic(auto, using(crate::proofs::Whole::printed))]
 pub fn report(bytes: &[u8]) -> Text
     ensures { result ≡ Spec.report bytes.now }
 {
     let mut t = Text::blank();
-    match sheet::check_sheet(bytes) {
-        Ok(()) => {
-            let h = sheet_record::header_of(bytes);
-            let rows = sheet_record::rows_of(bytes);
-            lines_on(&mut t, h, &rows);
-        }
-        Err(why) => lines::refused_line(&mut t, why),
+    if let Err(why) = put_lines(&mut t, bytes) {
+        lines::refused_line(&mut t, why);
     }
     t
 }

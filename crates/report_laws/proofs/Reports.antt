@@ -28,7 +28,7 @@ use Rattle.colregs.specs.Colregs.{ruling_of, ruling_answer}
 use Rattle.ruling_laws.proofs.Settled.{settled}
 use Rattle.constraints.specs.declared.ManoeuvreConstraints.{ManoeuvreConstraints}
 use Rattle.constraints.specs.Constraints.{alteration_checks, constraints_by, constraints_answer}
-use Rattle.choice.specs.declared.Sides.{Sides}
+use Rattle.motion.specs.declared.side.BySide.{BySide}
 use Rattle.choice.specs.Choice.{choice_for}
 use Rattle.traffic.specs.declared.Entry.{Entry}
 use Rattle.traffic.specs.Traffic.{target_of}
@@ -84,7 +84,7 @@ chosen_expected : (own : Vessel) (c : ManoeuvreConstraints) (choice : Option Cho
 chosen_expected own c None = inl refl
 chosen_expected own c (Some chosen) = tt
 
-answered_expected : (own : Vessel) (c : ManoeuvreConstraints) (sides : Sides) (choice : Option Chosen) → Expected (answered own c sides choice)
+answered_expected : (own : Vessel) (c : ManoeuvreConstraints) (sides : BySide Bool) (choice : Option Chosen) → Expected (answered own c sides choice)
 unfolding answered
 answered_expected own c sides choice = go (sides.starboard || sides.port)
   where

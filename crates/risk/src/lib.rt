@@ -41,7 +41,7 @@ pub fn drift_per_hour(seen: Relative) -> f64
     } = seen;
     let squared = range.0 * range.0;
     if squared > 0.0 {
-        return (offset.north * relative.east - offset.east * relative.north) / squared;
+        return offset.cross(relative) / squared;
     }
     0.0
 }
@@ -64,8 +64,7 @@ pub fn nearest(a: Approach) -> Option<Cpa>
 {
     match a {
         Approach::Closing(cpa) => Some(cpa),
-        Approach::Opening { current_range } => None,
-        Approach::Stationary { range } => None,
+        Approach::Opening { .. } | Approach::Stationary { .. } => None,
     }
 }
 
@@ -94,8 +93,5 @@ pub fn risk_at(policy: CpaPolicy, cpa: Cpa) -> CollisionRisk
 pub fn risk_of(policy: CpaPolicy, p: Option<Cpa>) -> CollisionRisk
     ensures { result ≡ Spec.risk_of policy p }
 {
-    match p {
-        None => CollisionRisk::Opening,
-        Some(cpa) => risk_at(policy, cpa),
-    }
+    p.map_or(CollisionRisk::Opening, |cpa| risk_at(policy, cpa))
 }

@@ -8,7 +8,7 @@ use native.Mathlib.Omega.{arith}
 use lib.IntN.{pos}
 use lib.Dec.{T, eqb, lt→ltb, eqb→eq, lit<, lit≤}
 use lib.Pow.{pow-add, pow_mono, pow_pos}
-use lib.Ieee.{Float, nan, inf, fin, binary64, fits, up, down, lt, eq, div, to_bits, of_bits}
+use lib.Ieee.{Float, nan, inf, fin, binary64, fits, up, down, lt, eq, to_bits, of_bits}
 use lib.Ieee.Bits.{is_true, of_bits-fits}
 use lib.Ieee.Fits.{down_pos, up_pos, and_l, and_i, eq→eqb}
 use lib.Ieee.Scale.{finite}
@@ -261,8 +261,8 @@ zero_level s u d = and_i (eqb (0 * u * 1) (0 * 1 * d)) (beq s false || eqb (0 * 
     go true h = h
     go false h = tt
 
-pub no_root : (x : Float) → lt (fin false 0 (pos 0)) x ≡ false → eq x (fin false 0 (pos 0)) ≡ false → div binary64 (fin false 0 (pos 0)) (fin false 0 (pos 0)) ≡ sqrt x
-unfolding lt eq sqrt div
+pub no_root : (x : Float) → lt (fin false 0 (pos 0)) x ≡ false → eq x (fin false 0 (pos 0)) ≡ false → nan ≡ sqrt x
+unfolding lt eq sqrt
 no_root nan p q = refl
 no_root (inf true) p q = refl
 no_root (inf false) p q = absurd (fails p tt)

@@ -80,10 +80,10 @@ impl Scaled {
         let s2 = s1 * q;
         let h2 = h1 * q;
         let g = s2 + h2 * (f - s2 * s2);
-        if g == g {
-            return f64::to_bits(g) % LEADING + LEADING;
+        if g.is_nan() {
+            return LEADING;
         }
-        LEADING
+        f64::to_bits(g) % LEADING + LEADING
     }
 
     // The whole number nearest to the root of d * 2^52, for d = m or 2 m.
@@ -164,6 +164,8 @@ impl Trial {
 }
 
 // The square root, rounded to the nearest f64: -0 and plus infinity stay, negative numbers and NaN give NaN.
+// It is not `f64::sqrt`: that is the processor's operation, taken on trust, and the elementary functions rest on sums, products and
+// quotients of floats alone.
 pub fn sqrt(x: f64) -> f64
     ensures { result ≡ sqrtOf x }
 {
@@ -177,34 +179,32 @@ pub fn sqrt(x: f64) -> f64
     if x == 0.0 {
         return x;
     }
-    0.0 / 0.0
+    f64::NAN
 }
 
 // The hypotenuse over sides u and v of clear sign, u being the larger.
+#[tactic(auto, unfolding(crate::specs::Hypot::hypot_ordered))]
 fn hypot_ordered(u: f64, v: f64) -> f64
     ensures { result ≡ hypot_ordered u v }
 {
-    if v == 0.0 {
-        return u;
-    }
-    if u < SMALL {
+    if v == 0.0 || u < SMALL {
         return u;
     }
     sqrt(u * u + v * v)
 }
 
 // The hypotenuse over sides of at most 2^500 in size, and NaN for others.
+#[tactic(auto, unfolding(crate::specs::Hypot::hypot, crate::specs::Hypot::in_domain))]
 pub fn hypot(x: f64, y: f64) -> f64
     ensures { result ≡ hypotOf x y }
 {
     let a = math::abs(x);
     let b = math::abs(y);
-    let inside = (a <= LARGEST) & (b <= LARGEST);
-    if inside {
+    if a <= LARGEST && b <= LARGEST {
         if a < b {
             return hypot_ordered(b, a);
         }
         return hypot_ordered(a, b);
     }
-    0.0 / 0.0
+    f64::NAN
 }

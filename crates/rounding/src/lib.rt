@@ -42,8 +42,7 @@ pub fn round_to_i32(value: f64) -> i32
     ensures { result ≡ Cast.round_to_i32 value }
 {
     let rounded = round(value);
-    let outside = (rounded > 2147483647.0) | (rounded < -2147483648.0);
-    if outside {
+    if rounded > i32::MAX as f64 || rounded < i32::MIN as f64 {
         0
     } else {
         std::num::saturating_f64_to_i32(rounded)

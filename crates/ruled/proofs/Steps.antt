@@ -1,8 +1,8 @@
 -- What the code of the ruled search owes: the search by offsets and velocities, and the answer with its clauses.
 use Rattle.std.specs.Prelude.{Err, Ok}
-use mathlib.Core.Path.{◌≡◌, sym, ap, ◌∙◌, subst}
+use mathlib.Core.Path.{◌≡◌, refl, sym, ap, ◌∙◌, subst}
 use mathlib.Core.Bool.{Bool, true, false, cond, ◌||◌}
-use mathlib.Core.List.{List, map}
+use mathlib.Core.List.{List, [], ◌∷◌, map}
 use Prim.Native.Nat.{ℕ}
 use lib.Ieee.{Float}
 use Rattle.elementary.specs.declared.error.Refusal.{Refusal}
@@ -11,13 +11,13 @@ use Rattle.motion.specs.declared.units.Distance.{Distance}
 use Rattle.motion.specs.declared.units.Direction.{Direction}
 use Rattle.std.specs.declared.option.Option.{Option}
 use Rattle.std.specs.declared.result.Result.{Result}
-use Rattle.arguments.specs.Check.{verdict}
+use Rattle.arguments.specs.Check.{check, verdict, checked}
 use Rattle.situation.specs.declared.party.Party.{Party}
 use Rattle.situation.specs.declared.party.Visibility.{Visibility}
 use Rattle.constraints.specs.declared.ManoeuvreConstraints.{ManoeuvreConstraints}
 use Rattle.passages.specs.declared.Moving.{Moving}
 use Rattle.clearing.specs.Clearing.{floor_of, moving}
-use Rattle.choice.specs.declared.Sides.{Sides}
+use Rattle.motion.specs.declared.side.BySide.{BySide}
 use Rattle.choice.specs.declared.Chosen.{Chosen}
 use Rattle.choice.specs.Choice.{smallest}
 use Rattle.choice_laws.proofs.Searched.{smallest_is}
@@ -30,9 +30,20 @@ use Rattle.ruled_laws.specs.Held.{HeldArguments}
 use Rattle.ruled_laws.proofs.Accepted as Accepted
 use Rattle.ruled_laws.proofs.Demanded.{demanded}
 
+-- ---- one check: what is accepted is good, and what is refused is bad
+pub is_good : (good : Bool) (why : Refusal) → Ok tt ≡ checked (check good why ∷ []) → good ≡ true
+unfolding verdict
+is_good true why h = refl
+is_good false why h = cc
+
+pub is_bad : (good : Bool) (why e : Refusal) → Err e ≡ checked (check good why ∷ []) → (good ≡ false) × (e ≡ why)
+unfolding verdict
+is_bad true why e h = cc
+is_bad false why e h = (refl, cc)
+
 -- ---- the search, with the sides that the rulings share
-module _ (own : Party) (entries : List Entry) (visibility : Visibility) (wind : Option Direction) (desired : Distance) (c : ManoeuvreConstraints) (sides : Sides) (is : sides ≡ shared_sides own visibility wind entries) where
-  abbrev found : Sides → Option Chosen
+module _ (own : Party) (entries : List Entry) (visibility : Visibility) (wind : Option Direction) (desired : Distance) (c : ManoeuvreConstraints) (sides : BySide Bool) (is : sides ≡ shared_sides own visibility wind entries) where
+  abbrev found : BySide Bool → Option Chosen
   found s = smallest own.motion (floor_of desired) (map moving (map target_of entries)) s c.least_alteration.0 c.most_alteration.0
 
   by : (b : Bool) → sides.starboard || sides.port ≡ b → cond b (chosen_answer own.motion c (found sides)) (Err Why.NoSharedSide) ≡ ruled_as own entries visibility wind desired c

@@ -17,7 +17,6 @@ use rulings::RuledManoeuvre;
 use situation::check;
 use situation::party::Circumstances;
 use traffic::Entry;
-use trials::TrialList;
 
 // The count of contacts, own craft, the contacts entry by entry, the wind, the desired distance, the constraints.
 fn check_arguments(
@@ -78,14 +77,9 @@ pub fn ruled_search(
     check_arguments(around, t, desired, constraints)?;
     let own = around.own.motion;
     let sides = rulings::shared_sides(around, t);
-    if sides.starboard | sides.port {
-        let scene = traffic::scene_of(t);
-        let search = Search::new(own, &scene, desired);
-        let list = TrialList {
-            least: constraints.least_alteration().0,
-            most: constraints.most_alteration().0,
-        };
-        return chosen_answer(own, constraints, search.smallest(sides, list));
-    }
-    Err(Refusal::NoSharedSide)
+    arguments::ensure(sides.starboard || sides.port, Refusal::NoSharedSide)?;
+    let scene = traffic::scene_of(t);
+    let search = Search::new(own, &scene, desired);
+    let choice = search.smallest(sides, constraints.trials());
+    chosen_answer(own, constraints, choice)
 }

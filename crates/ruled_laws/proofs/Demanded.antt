@@ -33,7 +33,7 @@ use Rattle.trials.proofs.Climbing.{is_trial_list}
 use Rattle.trials.proofs.Listed.{ascending}
 use Rattle.clearing.specs.declared.Passing.{Passing}
 use Rattle.clearing.specs.Clearing.{altered, clears}
-use Rattle.choice.specs.declared.Sides.{Sides}
+use Rattle.motion.specs.declared.side.BySide.{BySide}
 use Rattle.choice.specs.declared.Chosen.{Chosen}
 use Rattle.choice.specs.Choice.{signed, choice, trial_clears, choice_for}
 use Rattle.traffic.specs.declared.Entry.{Entry}
@@ -66,11 +66,11 @@ five_not_13 : ◌≡◌ {A = Result RuledManoeuvre Refusal} (Err Why.NoTrialClea
 five_not_13 e = let z : ◌≡◌ {A = ℕ} 5 13 = ap ruled_number e in omega arith
 
 -- ---- whether there is a side
-some_allowed : (s : Sides) (side : Side) → T (allows s side) → s.starboard || s.port ≡ true
+some_allowed : (s : BySide Bool) (side : Side) → T (allows s side) → s.starboard || s.port ≡ true
 some_allowed s Starboard t = is_true (s.starboard || s.port) (or_left s.starboard s.port t)
 some_allowed s Port t = is_true (s.starboard || s.port) (or_right s.starboard s.port t)
 
-allowed_side : (s : Sides) → s.starboard || s.port ≡ true → (side : Side) × T (allows s side)
+allowed_side : (s : BySide Bool) → s.starboard || s.port ≡ true → (side : Side) × T (allows s side)
 allowed_side s h = go s.starboard refl s.port refl h
   where
     go : (a : Bool) → s.starboard ≡ a → (b : Bool) → s.port ≡ b → a || b ≡ true → (side : Side) × T (allows s side)
@@ -86,7 +86,7 @@ module _ (own : Party) (count : ℕ) (entries : List Entry) (visibility : Visibi
     abbrev most : Float
     most = c.most_alteration.0
 
-    abbrev sides : Sides
+    abbrev sides : BySide Bool
     sides = shared_sides own visibility wind entries
 
     abbrev clears_by : Side → Float → Option Passing

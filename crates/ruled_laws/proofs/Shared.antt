@@ -1,5 +1,5 @@
 -- The shared sides are those that the ruling on every contact permits.
-use Rattle.std.specs.Prelude.{Err, Ok}
+use Rattle.std.specs.Prelude.{Bool, Err, Ok}
 use mathlib.Core.Path.{◌≡◌, refl, sym, subst}
 use mathlib.Core.Logic.{⊎_elim}
 use mathlib.Core.List.Memᴰ
@@ -20,18 +20,18 @@ use Rattle.colregs.specs.Colregs.{ruling_answer}
 use Rattle.constraints.specs.declared.ManoeuvreConstraints.{ManoeuvreConstraints}
 use Rattle.motion.specs.declared.side.Side.{Side}
 use Rattle.motion.specs.declared.side.Side.TheVariants.{Starboard, Port}
-use Rattle.choice.specs.declared.Sides.{Sides}
+use Rattle.motion.specs.declared.side.BySide.{BySide}
 use Rattle.choice_laws.specs.Smallest.{allows}
 use Rattle.traffic.specs.declared.Entry.{Entry}
 use Rattle.rulings.specs.Ruled.{situation_of, permitted_by, sides_of, in_both, either, join_sides, shared_sides}
 use Rattle.rulings.specs.Demand3.{Ruled, Shared}
 
-both_allow : (a b : Sides) (side : Side) → T (allows (in_both a b) side) → T (allows a side) × T (allows b side)
+both_allow : (a b : BySide Bool) (side : Side) → T (allows (in_both a b) side) → T (allows a side) × T (allows b side)
 unfolding in_both
 both_allow a b Starboard t = (and_l a.starboard b.starboard t, and_r a.starboard b.starboard t)
 both_allow a b Port t = (and_l a.port b.port t, and_r a.port b.port t)
 
-allow_both : (a b : Sides) (side : Side) → T (allows a side) → T (allows b side) → T (allows (in_both a b) side)
+allow_both : (a b : BySide Bool) (side : Side) → T (allows a side) → T (allows b side) → T (allows (in_both a b) side)
 unfolding in_both
 allow_both a b Starboard s t = and_i a.starboard b.starboard s t
 allow_both a b Port s t = and_i a.port b.port s t
@@ -41,11 +41,11 @@ either-allows Starboard = tt
 either-allows Port = tt
 
 module _ (own : Party) (visibility : Visibility) (wind : Option Direction) where
-  abbrev join : Sides → Entry → Sides
+  abbrev join : BySide Bool → Entry → BySide Bool
   join = join_sides own visibility wind
 
   -- what is allowed after all contacts was allowed before, and by each of them
-  all_allow : (s : Sides) (entries : List Entry) (side : Side) → T (allows (fold join s entries) side) → T (allows s side) × ((e : Entry) → Memᴰ e entries → T (allows (sides_of own visibility wind e) side))
+  all_allow : (s : BySide Bool) (entries : List Entry) (side : Side) → T (allows (fold join s entries) side) → T (allows s side) × ((e : Entry) → Memᴰ e entries → T (allows (sides_of own visibility wind e) side))
   unfolding fold
   all_allow s [] side t = (t, λ e m. absurd (Memᴰ.not-nil m))
   all_allow s (x ∷ entries) side t =
@@ -53,7 +53,7 @@ module _ (own : Party) (visibility : Visibility) (wind : Option Direction) where
       let b = both_allow s (sides_of own visibility wind x) side o.0 in
       (b.0, λ e m. ⊎_elim (λ is. subst (λ z. T (allows (sides_of own visibility wind z) side)) (sym is) b.1) (λ r. o.1 e r) (Memᴰ.cases_cons m))
 
-  allow_all : (s : Sides) (entries : List Entry) (side : Side) → T (allows s side) → ((e : Entry) → Memᴰ e entries → T (allows (sides_of own visibility wind e) side)) → T (allows (fold join s entries) side)
+  allow_all : (s : BySide Bool) (entries : List Entry) (side : Side) → T (allows s side) → ((e : Entry) → Memᴰ e entries → T (allows (sides_of own visibility wind e) side)) → T (allows (fold join s entries) side)
   unfolding fold
   allow_all s [] side t h = t
   allow_all s (x ∷ entries) side t h = allow_all (join s x) entries side (allow_both s (sides_of own visibility wind x) side t (h x (Memᴰ.head refl))) (λ e m. h e (Memᴰ.tail m))

@@ -1,5 +1,5 @@
 -- The ruled search (01, 'Trial list': 'a side is permitted, or shared, if `rule_of_the_road` … permits it for every contact, standard config (both sides without contacts); the caller's own sides take no part; no seeds. All its contacts share own craft, visibility and wind').
-use Rattle.std.specs.Prelude.{true, false, ◌&&◌, ◌||◌, cond, List, ◌++◌, map, ℕ, None, Some, Err, Ok}
+use Rattle.std.specs.Prelude.{Bool, true, false, ◌&&◌, ◌||◌, cond, List, ◌++◌, map, ℕ, None, Some, Err, Ok}
 use Rattle.laws.specs.Fold.{fold}
 use Rattle.elementary.specs.Refusal.{number_of}
 use Rattle.elementary.specs.declared.error.Refusal.TheVariants as Why
@@ -21,7 +21,7 @@ use Rattle.constraints.specs.declared.ManoeuvreConstraints.{ManoeuvreConstraints
 use Rattle.constraints.specs.Constraints.{constraint_checks}
 use Rattle.manoeuvre.specs.Manoeuvre.{turn_time}
 use Rattle.clearing.specs.Clearing.{altered, floor_of, moving}
-use Rattle.choice.specs.declared.Sides.{Sides}
+use Rattle.motion.specs.declared.side.BySide.{BySide}
 use Rattle.choice.specs.declared.Chosen.{Chosen}
 use Rattle.choice.specs.Choice.{signed, choice_for, smallest}
 use Rattle.traffic.specs.declared.Entry.{Entry}
@@ -32,23 +32,23 @@ use Rattle.rulings.specs.declared.RuledManoeuvre.{RuledManoeuvre}
 abbrev pub situation_of : Party → Visibility → Option Direction → Entry → Situation
 situation_of own visibility wind e = record { own = own; target = e.target; contact = e.contact; visibility = visibility; wind_from = wind }
 
-abbrev pub permitted_by : Result Ruling Refusal → Sides
+abbrev pub permitted_by : Result Ruling Refusal → BySide Bool
 permitted_by (Ok r) = record { starboard = r.manoeuvre.starboard; port = r.manoeuvre.port }
 permitted_by (Err why) = record { starboard = false; port = false }
 
-unfoldable pub sides_of : Party → Visibility → Option Direction → Entry → Sides
+unfoldable pub sides_of : Party → Visibility → Option Direction → Entry → BySide Bool
 sides_of own visibility wind e = permitted_by (ruling_answer (situation_of own visibility wind e) standard)
 
-unfoldable pub in_both : Sides → Sides → Sides
+unfoldable pub in_both : BySide Bool → BySide Bool → BySide Bool
 in_both a b = record { starboard = a.starboard && b.starboard; port = a.port && b.port }
 
-abbrev pub either : Sides
+abbrev pub either : BySide Bool
 either = record { starboard = true; port = true }
 
-abbrev pub join_sides : Party → Visibility → Option Direction → Sides → Entry → Sides
+abbrev pub join_sides : Party → Visibility → Option Direction → BySide Bool → Entry → BySide Bool
 join_sides own visibility wind s e = in_both s (sides_of own visibility wind e)
 
-unfoldable pub shared_sides : Party → Visibility → Option Direction → List Entry → Sides
+unfoldable pub shared_sides : Party → Visibility → Option Direction → List Entry → BySide Bool
 shared_sides own visibility wind entries = fold (join_sides own visibility wind) either entries
 
 -- ---- the checks: the count of contacts, own, entry by entry contact then target, wind, desired, constraints
@@ -70,7 +70,7 @@ abbrev pub chosen_answer : Vessel → ManoeuvreConstraints → Option Chosen →
 chosen_answer own c None = Err Why.NoTrialClears
 chosen_answer own c (Some chosen) = Ok (manoeuvre_of own c chosen)
 
-unfoldable pub answered : Vessel → ManoeuvreConstraints → Sides → Option Chosen → Result RuledManoeuvre Refusal
+unfoldable pub answered : Vessel → ManoeuvreConstraints → BySide Bool → Option Chosen → Result RuledManoeuvre Refusal
 answered own c sides choice = cond (sides.starboard || sides.port) (chosen_answer own c choice) (Err Why.NoSharedSide)
 
 unfoldable pub ruled : Party → List Entry → Visibility → Option Direction → Distance → ManoeuvreConstraints → Result RuledManoeuvre Refusal

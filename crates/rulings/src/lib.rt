@@ -31,16 +31,13 @@ pub struct RuledManoeuvre {
 fn permitted_by(answer: Result<Ruling, Refusal>) -> Sides
     ensures { result ≡ Spec.permitted_by answer }
 {
-    match answer {
-        Ok(ruling) => Sides {
+    answer.map_or(
+        Sides::default(),
+        |ruling| Sides {
             starboard: ruling.manoeuvre.starboard,
             port: ruling.manoeuvre.port,
         },
-        Err(why) => Sides {
-            starboard: false,
-            port: false,
-        },
-    }
+    )
 }
 
 // The sides that the ruling on one contact permits.
@@ -57,8 +54,8 @@ fn in_both(a: Sides, b: Sides) -> Sides
     ensures { result ≡ Spec.in_both a b }
 {
     Sides {
-        starboard: a.starboard & b.starboard,
-        port: a.port & b.port,
+        starboard: a.starboard && b.starboard,
+        port: a.port && b.port,
     }
 }
 
@@ -66,12 +63,10 @@ fn in_both(a: Sides, b: Sides) -> Sides
 pub fn shared_sides(around: Circumstances, t: &[Entry]) -> Sides
     ensures { result ≡ Spec.shared_sides around.own around.visibility around.wind_from t.now }
 {
-    let mut sides = Sides {
+    let both = Sides {
         starboard: true,
         port: true,
     };
-    for e in t {
-        sides = in_both(sides, sides_of(around, *e));
-    }
-    sides
+    t.iter()
+        .fold(both, |sides, e| in_both(sides, sides_of(around, *e)))
 }

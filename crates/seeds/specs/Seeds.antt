@@ -13,20 +13,19 @@ use Rattle.clearing.specs.declared.Passing.{Passing}
 use Rattle.std.specs.declared.option.Option.{Option}
 use Rattle.std.specs.declared.result.Result.{Result}
 use Rattle.elementary.specs.declared.error.Refusal.{Refusal}
-use Rattle.course.specs.declared.Avoidance.{Avoidance}
 use Rattle.motion.specs.declared.side.Side.{Side}
 use Rattle.motion.specs.declared.side.Side.TheVariants.{Starboard, Port}
 use Rattle.constraints.specs.declared.ManoeuvreConstraints.{ManoeuvreConstraints}
 use Rattle.constraints.specs.Constraints.{permits_starboard, permits_port}
 use Rattle.trials.specs.Trials.{trials}
-use Rattle.choice.specs.declared.Sides.{Sides}
+use Rattle.motion.specs.declared.side.BySide.{BySide}
 use Rattle.choice.specs.Choice.{signed, chosen, first, smaller, or_else}
 
 -- ---- the seeds: the exact courses, none where there is no such course
-abbrev pub no_courses : Avoidance
+abbrev pub no_courses : BySide (Option Direction)
 no_courses = record { starboard = None; port = None }
 
-abbrev pub courses_in : Result Avoidance Refusal → Avoidance
+abbrev pub courses_in : Result (BySide (Option Direction)) Refusal → BySide (Option Direction)
 courses_in (Ok a) = a
 courses_in (Err why) = no_courses
 
@@ -50,13 +49,13 @@ seed_choice clears side most (Some m) = cond (le m most) (chosen side m (clears 
 unfoldable pub seeded_side : Bool → (Float → Option Passing) → Side → Float → Option Float → List Float → Option Chosen
 seeded_side permitted clears side most seed magnitudes = cond permitted (or_else (seed_choice clears side most seed) (first clears side magnitudes)) None
 
-unfoldable pub seeded_choice : Vessel → (Side → Float → Option Passing) → Avoidance → ManoeuvreConstraints → Option Chosen
+unfoldable pub seeded_choice : Vessel → (Side → Float → Option Passing) → BySide (Option Direction) → ManoeuvreConstraints → Option Chosen
 seeded_choice own clears courses c =
     let least = c.least_alteration.0 in
     let most = c.most_alteration.0 in
     smaller (seeded_side (permits_starboard c.sides) (clears Starboard) Starboard most (seed_on own.course Starboard least courses.starboard) (trials least most))
     (seeded_side (permits_port c.sides) (clears Port) Port most (seed_on own.course Port least courses.port) (trials least most))
 
-abbrev pub only : Side → Sides
+abbrev pub only : Side → BySide Bool
 only Starboard = record { starboard = true; port = false }
 only Port = record { starboard = false; port = true }

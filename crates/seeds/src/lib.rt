@@ -4,6 +4,8 @@
 
 ghost use Rattle.std.specs.Prelude.{◌≡◌};
 ghost use Rattle.choice.specs.Choice as Choosing;
+ghost use Rattle.constraints.specs.Constraints.{permits};
+ghost use Rattle.motion.specs.Sides.{on};
 ghost use Rattle.trials.specs.Trials.{trials};
 ghost use Rattle.seeds.specs.Seeds as Spec;
 
@@ -11,18 +13,14 @@ use choice::{Chosen, Search, Sides};
 use constraints::ManoeuvreConstraints;
 use course::Avoidance;
 use elementary::error::Refusal;
-use motion::side::Side;
+use motion::side::{BySide, Side};
 use motion::units::Direction;
-use trials::TrialList;
 
 // The courses of an answer, none on either side where it is refused.
 pub fn courses_in(answer: Result<Avoidance, Refusal>) -> Avoidance
     ensures { result ≡ Spec.courses_in answer }
 {
-    answer.unwrap_or(Avoidance {
-        starboard: None,
-        port: None,
-    })
+    answer.unwrap_or_default()
 }
 
 // An alteration that is on the side, raised to least.
@@ -31,11 +29,7 @@ fn seed_by(side: Side, least: f64, alteration: f64) -> Option<f64>
     ensures { result ≡ Spec.seed_by side least alteration }
 {
     let towards = choice::signed(side, alteration);
-    if towards > 0.0 {
-        Some(math::larger(math::abs(alteration), least))
-    } else {
-        None
-    }
+    (towards > 0.0).then_some(math::larger(math::abs(alteration), least))
 }
 
 fn seed_on(own: Direction, side: Side, least: f64, a: Option<Direction>) -> Option<f64>
@@ -61,21 +55,22 @@ fn try_seed(search: &Search<'_>, side: Side, most: f64, seed: Option<f64>) -> Op
     search.try_side(m <= most, side, m)
 }
 
-// A side's choice: its seed, else the first of its trial list that clears.
+// A side's choice, where it is permitted: its seed, else the first of its trial list that clears.
 #[tactic(auto, using(crate::proofs::Steps::trials_alone), unfolding(crate::specs::Seeds::seeded_side))]
 fn on_side(
     search: &Search<'_>,
-    permitted: bool,
     side: Side,
-    seed: Option<f64>,
-    list: TrialList,
+    courses: Avoidance,
+    c: ManoeuvreConstraints,
 ) -> Option<Chosen>
-    ensures { result ≡ Spec.seeded_side permitted (Choosing.clears_on search.now.own search.now.floor search.now.scene.now side) side list.most seed (trials list.least list.most) }
+    ensures { result ≡ Spec.seeded_side (on (permits c.sides) side) (Choosing.clears_on search.now.own search.now.floor search.now.scene.now side) side c.most_alteration.0 (Spec.seed_on search.now.own.course side c.least_alteration.0 (on courses side)) (trials c.least_alteration.0 c.most_alteration.0) }
 {
-    if !permitted {
+    if !BySide::from(c.sides()).on(side) {
         return None;
     }
-    // A match: of a closure that borrows a type with a lifetime, here `&Search<'_>`, `or_else` says nothing of what it returns.
+    let list = c.trials();
+    let seed = seed_on(search.own.course, side, list.least, courses.on(side));
+    // A match, as in `Search::try_both`: of a closure that borrows `&Search<'_>`, `or_else` says nothing.
     match try_seed(search, side, list.most, seed) {
         Some(c) => Some(c),
         None => search.smallest(only(side), list),
@@ -86,6 +81,7 @@ fn on_side(
 fn smaller_of(starboard: Option<Chosen>, port: Option<Chosen>) -> Option<Chosen>
     ensures { result ≡ Choosing.smaller starboard port }
 {
+    // A match: `starboard.filter(|s| !port.is_some_and(|p| p.magnitude.0 < s.magnitude.0)).or(port)` is shorter, and hides the case of a tie.
     match (starboard, port) {
         (Some(s), Some(p)) if p.magnitude.0 < s.magnitude.0 => port,
         (None, _) => port,
@@ -102,21 +98,8 @@ pub fn seeded_choice(
 ) -> Option<Chosen>
     ensures { result ≡ Spec.seeded_choice search.now.own (Choosing.clears_on search.now.own search.now.floor search.now.scene.now) courses c }
 {
-    let sides = c.sides();
-    let list = TrialList {
-        least: c.least_alteration().0,
-        most: c.most_alteration().0,
-    };
-    let own = search.own.course;
-    let starboard_seed = seed_on(own, Side::Starboard, list.least, courses.starboard);
-    let port_seed = seed_on(own, Side::Port, list.least, courses.port);
-    let starboard = on_side(
-        search,
-        sides.starboard(),
-        Side::Starboard,
-        starboard_seed,
-        list,
-    );
-    let port = on_side(search, sides.port(), Side::Port, port_seed, list);
-    smaller_of(starboard, port)
+    smaller_of(
+        on_side(search, Side::Starboard, courses, c),
+        on_side(search, Side::Port, courses, c),
+    )
 }

@@ -27,10 +27,7 @@ fn mul58(a: u64, b: u64) -> u64
 pub fn product(a: u64, b: u64) -> u64
     ensures { (a ≤ 2 ^ 58 → b ≤ 2 ^ 58 → result ≡ a * b / 2 ^ 58) × (2 ^ 58 < a → result ≡ 0) × (2 ^ 58 < b → result ≡ 0) × (result ≤ b) }
 {
-    if ONE < a {
-        return 0;
-    }
-    if ONE < b {
+    if ONE < a || ONE < b {
         return 0;
     }
     mul58(a, b)

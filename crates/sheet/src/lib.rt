@@ -6,11 +6,10 @@ ghost use Rattle.arguments.specs.Check as Check;
 ghost use Rattle.sheet.specs.Sheet as Spec;
 
 use elementary::error::Refusal;
-use motion::units::{Angle, Distance};
+use motion::units::Distance;
 use sheet_record::{Header, Row};
 use sheet_values::scaled;
 use situation::check;
-use time::Duration;
 use traffic::Entry;
 
 // The categories of the contacts (number 16).
@@ -32,30 +31,16 @@ fn check_codes(h: Header, rows: &[Row]) -> Result<(), Refusal>
     check_categories(rows)
 }
 
-// The limits of the assessment.
-fn check_limits(h: Header) -> Result<(), Refusal>
-    ensures { result ≡ Check.checked (Spec.limit_checks h) }
-{
-    let latest = Duration {
-        secs: h.tcpa_limit as u64,
-        nanos: 0,
-    };
-    arguments::check_distance(Distance(scaled(h.cpa_limit)))?;
-    arguments::ensure(latest.is_accepted(), Refusal::Time)
-}
-
 // Own craft, the desired distance, the least and the most alteration, the limits, the wind, and the contacts one by one.
 fn check_values(h: Header, t: &[Entry]) -> Result<(), Refusal>
     ensures { result ≡ Check.checked (Spec.value_checks h t.now) }
 {
     let own = sheet_values::own_of(h);
-    let least = Angle(scaled(h.least));
-    let most = Angle(scaled(h.most));
     let wind = sheet_values::wind_from(h);
     arguments::check_vessel(own.motion)?;
     arguments::check_distance(Distance(scaled(h.desired)))?;
-    constraints::check_alterations(least, most)?;
-    check_limits(h)?;
+    sheet_limits::constraints_on(h)?;
+    sheet_limits::policy_on(h)?;
     check::check_perhaps(wind)?;
     traffic::check_contacts(t)
 }

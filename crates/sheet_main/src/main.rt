@@ -44,11 +44,8 @@ fn print_line<W: Write>(output: &mut W, line: &[u8]) -> io::Result<()> {
 
 // The sheets of the input, a line each, one after the other.
 fn replay<W: Write>(output: &mut W, input: &[u8]) -> io::Result<()> {
-    let mut rest = input;
-    while !rest.is_empty() {
-        let end = rest.iter().position(|b| *b == b'\n').unwrap_or(rest.len());
-        print_line(output, &rest[..end])?;
-        rest = &rest[rest.len().min(end + 1)..];
+    for line in input.split_inclusive(|b| *b == b'\n') {
+        print_line(output, line.strip_suffix(b"\n").unwrap_or(line))?;
     }
     Ok(())
 }

@@ -1,7 +1,8 @@
 // An encounter sheet as a record of whole numbers, as they stand in its words: the header and up to MAX_CONTACTS contacts.
 #![tactic(auto)]
 
-ghost use Rattle.std.specs.Prelude.{◌≡◌};
+ghost use Rattle.std.specs.Prelude.{◌≡◌, map};
+ghost use Rattle.std.specs.Int.{w32, from_le_bytes};
 ghost use Rattle.sheet_words.specs.Word as Words;
 ghost use Rattle.sheet_record.specs.Record as Spec;
 
@@ -46,10 +47,7 @@ fn value_at(bytes: &[u8], i: usize) -> u32
 fn wind_of(bytes: &[u8]) -> Option<u32>
     ensures { result ≡ Spec.wind_of (Words.words bytes.now) }
 {
-    if sheet_words::has_wind(bytes) {
-        return Some(value_at(bytes, 9));
-    }
-    None
+    sheet_words::has_wind(bytes).then(|| value_at(bytes, 9))
 }
 
 // The header of a sheet; what is not there is 0, and an unknown wind.
@@ -72,31 +70,33 @@ pub fn header_of(bytes: &[u8]) -> Header
 }
 
 // How many whole contacts follow the header.
-#[tactic(auto, using(crate::proofs::Counting::few, crate::proofs::Counting::many))]
+#[tactic(auto, using(crate::proofs::Counting::of_bytes))]
 pub fn contact_count(bytes: &[u8]) -> usize
     ensures { result ≡ Spec.contact_count (Words.words bytes.now) }
 {
-    let count = bytes.len() / 4;
-    let first = sheet_words::header_length(bytes);
-    if count < first {
-        return 0;
-    }
-    (count - first) / 6
+    (bytes.len() / 4).saturating_sub(sheet_words::header_length(bytes)) / 6
 }
 
-// The contact whose words begin at word i; what is not there is 0.
-#[tactic(auto, unfolding(crate::specs::Record::row_from))]
-fn row_from(bytes: &[u8], i: usize) -> Row
-    ensures { result ≡ Spec.row_from (Words.words bytes.now) (Spec.held i) }
+// The value of a word that stands as its four bytes.
+fn value_in(word: &[u8; 4]) -> u32
+    ensures { result ≡ Words.value (from_le_bytes w32 word.now) }
 {
-    let at = i % 65536;
+    sheet_words::value_of(u32::from_le_bytes(*word))
+}
+
+// The contact of six words.
+#[tactic(auto, unfolding(crate::specs::Record::row_from))]
+fn row_of(words: &[[u8; 4]; 6]) -> Row
+    ensures { result ≡ Spec.row_from (map (from_le_bytes w32) words.now) 0 }
+{
+    let [id, bearing, range, course, speed, category] = words;
     Row {
-        id: value_at(bytes, at),
-        bearing: value_at(bytes, at + 1),
-        range: value_at(bytes, at + 2),
-        course: value_at(bytes, at + 3),
-        speed: value_at(bytes, at + 4),
-        category: value_at(bytes, at + 5),
+        id: value_in(id),
+        bearing: value_in(bearing),
+        range: value_in(range),
+        course: value_in(course),
+        speed: value_in(speed),
+        category: value_in(category),
     }
 }
 
@@ -104,25 +104,24 @@ fn row_from(bytes: &[u8], i: usize) -> Row
 pub fn rows_of(bytes: &[u8]) -> ArrayVec<Row, MAX_CONTACTS>
     ensures { result.items ≡ Spec.rows_of (Words.words bytes.now) }
 {
-    let n = room::held(contact_count(bytes));
-    let first = sheet_words::header_length(bytes);
+    let words = sheet_words::words_of(bytes);
+    let header = sheet_words::header_length(bytes).min(words.len());
+    let (contacts, _) = words[header..].as_chunks::<6>();
     let mut rows = ArrayVec::new();
-    for i in 0..n {
-        rows.push(row_from(bytes, first + 6 * i));
+    for contact in room::first(contacts) {
+        rows.push(row_of(contact));
     }
     rows
 }
 
 // The layout, then the count of contacts.
-#[tactic(auto, using(crate::proofs::Counting::out_of_order, crate::proofs::Counting::right, crate::proofs::Counting::too_many))]
+#[tactic(auto, unfolding(crate::specs::Record::readable, arguments::specs::Check::verdict))]
 pub fn check_layout(bytes: &[u8]) -> Result<(), Refusal>
     ensures { result ≡ Spec.readable bytes.now }
 {
-    if sheet_words::in_layout(bytes) {
-        if contact_count(bytes) <= MAX_CONTACTS {
-            return Ok(());
-        }
-        return Err(Refusal::TooManyContacts);
-    }
-    Err(Refusal::Layout)
+    arguments::ensure(sheet_words::in_layout(bytes), Refusal::Layout)?;
+    arguments::ensure(
+        contact_count(bytes) <= MAX_CONTACTS,
+        Refusal::TooManyContacts,
+    )
 }

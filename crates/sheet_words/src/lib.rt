@@ -45,7 +45,7 @@ impl Kind {
 
 // The words of a sheet, each as its four bytes; what is left over makes no word.
 #[tactic(auto, using(crate::proofs::Words::chunked))]
-fn words_of(bytes: &[u8]) -> &[[u8; 4]]
+pub fn words_of(bytes: &[u8]) -> &[[u8; 4]]
     ensures { map (from_le_bytes w32) result.now ≡ Spec.words bytes.now }
 {
     let (words, _) = bytes.as_chunks::<4>();
@@ -100,14 +100,9 @@ pub fn header_length(bytes: &[u8]) -> usize
 fn in_order(first: u32, words: &[[u8; 4]]) -> bool
     ensures { result ≡ Spec.in_order first (map (from_le_bytes w32) words.now) }
 {
-    let mut kind = first;
-    for w in words {
-        if kind_of(u32::from_le_bytes(*w)) != kind {
-            return false;
-        }
-        kind = next_kind(kind);
-    }
-    kind == 9
+    words.iter().try_fold(first, |kind, w| {
+        (kind_of(u32::from_le_bytes(*w)) == kind).then_some(next_kind(kind))
+    }) == Some(9)
 }
 
 // Whether the kinds of all words are in order: the header's, with the wind or without, and those of whole contacts.

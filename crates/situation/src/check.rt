@@ -13,10 +13,7 @@ use motion::units::{Angle, Direction};
 pub fn check_perhaps(p: Option<Direction>) -> Result<(), Refusal>
     ensures { result ≡ Check.checked (Spec.perhaps_checks p) }
 {
-    match p {
-        None => Ok(()),
-        Some(d) => arguments::ensure(arguments::is_direction(d), Refusal::Angle),
-    }
+    arguments::ensure(p.is_none_or(arguments::is_direction), Refusal::Angle)
 }
 
 // A party's course, speed and heading.

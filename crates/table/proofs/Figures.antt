@@ -19,7 +19,7 @@ use Rattle.manoeuvre.specs.declared.AvoidanceManoeuvre.{AvoidanceManoeuvre}
 use Rattle.time.specs.declared.Duration.{Duration}
 use Rattle.relative_motion.specs.Approach.{approach_kind}
 use Rattle.best_course.specs.declared.Best.{Best}
-use Rattle.best_course.specs.declared.Choice.{Choice}
+use Rattle.motion.specs.declared.side.BySide.{BySide}
 use Rattle.policy.specs.declared.CpaPolicy.{CpaPolicy}
 use Rattle.risk.specs.Risk.{rank}
 use Rattle.situation.specs.declared.party.VesselCategory.TheVariants.{PowerDriven}
@@ -131,10 +131,10 @@ abbrev held : Option Best → ℕ
 held None = 0
 held (Some b) = 1
 
-abbrev pub courses : Choice → ℕ
+abbrev pub courses : BySide (Option Best) → ℕ
 courses c = held c.starboard + held c.port
 
-abbrev pub none : Choice
+abbrev pub none : BySide (Option Best)
 none = record { starboard = None; port = None }
 
 abbrev seconds_in : Option Cpa → ℕ

@@ -39,10 +39,8 @@ fn outranks(a: CollisionAssessment, b: CollisionAssessment) -> bool
 pub fn keep(best: Option<TargetAssessment>, e: TargetAssessment) -> Option<TargetAssessment>
     ensures { result ≡ Spec.keep best e }
 {
-    match best {
-        Some(b) if outranks(b.assessment, e.assessment) => Some(b),
-        _ => Some(e),
-    }
+    best.filter(|b| outranks(b.assessment, e.assessment))
+        .or(Some(e))
 }
 
 // Whether a target's risk is at least the given one.

@@ -57,7 +57,7 @@ impl Duration {
 
     // The longest that is accepted: 2^53 s.
     pub const LONGEST: Duration = Duration {
-        secs: 9007199254740992,
+        secs: 1 << 53,
         nanos: 0,
     };
 

@@ -23,13 +23,15 @@ pub struct Entry {
 }
 
 // The target of an entry, as the search sees it.
-#[tactic(auto, unfolding(crate::specs::Traffic::target_of))]
-pub fn target_of(e: Entry) -> Target
-    ensures { result ≡ Spec.target_of e }
-{
-    Target {
-        contact: e.contact,
-        vessel: e.target.motion,
+impl From<Entry> for Target {
+    ghost from_gives = { λ e result. result ≡ Spec.target_of e };
+
+    #[tactic(auto, unfolding(crate::specs::Traffic::target_of))]
+    fn from(e: Entry) -> Target {
+        Target {
+            contact: e.contact,
+            vessel: e.target.motion,
+        }
     }
 }
 
@@ -40,7 +42,7 @@ pub fn scene_of(t: &[Entry]) -> ArrayVec<Moving, MAX_CONTACTS>
     let held = room::first(t);
     let mut scene = ArrayVec::new();
     for e in held {
-        scene.push(passages::moving_of(target_of(*e)));
+        scene.push(Moving::from(Target::from(*e)));
     }
     scene
 }

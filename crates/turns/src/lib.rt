@@ -52,7 +52,7 @@ fn remainder_of_positive(a: f64) -> f64
     if math::is_finite(a) {
         return reduced(a, MOST_TURNS, 1016);
     }
-    0.0 / 0.0
+    f64::NAN
 }
 
 // The remainder by a full turn, with the sign of the number; NaN of what is not finite.

@@ -44,7 +44,7 @@ pub fn refused<const N: usize>(why: Refusal) -> [u64; N]
 }
 
 // ---- the arguments
-// Own craft, the contact and the target are made one by one: what the exports call has the Rust's signatures, which take them so.
+// Own craft, the contact and the target are made one by one: what the exports call takes them so, by the project's rule that functions keep kinavis's names and arguments.
 
 // A vessel with a course in degrees and a speed in knots.
 pub fn vessel(course: f64, speed: f64) -> Vessel

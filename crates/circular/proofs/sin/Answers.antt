@@ -1,4 +1,5 @@
 use Rattle.std.proofs.Common.{arith}
+use lib.Ieee.{of_bits}
 use Rattle.laws.proofs.Bools.{holds}
 use Rattle.circular.proofs.Steps.{small-rest, sin-tiny, sin-negative, sin_positive, sin_outside}
 use Rattle.circular.proofs.sin.Goals as goal
@@ -15,5 +16,6 @@ returns-then-x c = let u = c.in-Some.ensures in sin-negative c.args.x (holds c.w
 pub returns-else-x : goal.returns-else-x
 returns-else-x c = let u = c.in-Some.ensures in sin_positive c.args.x (holds c.well_formed.0.1) u.0 c.in-Some.n u.1 c.abs.result _ c.abs.ensures c.if-abs.false c.turned-y.ensures c.if-x.false
 
-pub returns : goal.returns
-returns c = sin_outside c.args.x c.abs.result c.abs.ensures c.if-abs.false c.in_default.ensures
+pub returns-in_default : goal.returns-in_default
+unfolding of_bits
+returns-in_default c = sin_outside c.args.x c.abs.result c.abs.ensures c.if-abs.false c.in_default.ensures

@@ -1,12 +1,13 @@
-use mathlib.Core.Path.{sym, ◌∙◌}
+use Rattle.std.specs.Prelude.{None}
+use Rattle.std.proofs.Common.{rules, ◌≡◌}
+use Rattle.std.proofs.lemmas.Iterator.{YieldsList-from_slice, cases_from_any}
 use Rattle.clearing.specs.Clearing.{passage_at, clears_at}
-use Rattle.clearing.proofs.Loop.{is_none_lem, one_blocks, whole, no}
+use Rattle.clearing.proofs.Loop.{found_blocks}
 use Rattle.clearing.proofs.suspect_blocks.Goals as goal
 
-pub returns-then-is_none : goal.returns-then-is_none
-unfolding clears_at
-returns-then-is_none c = λ e. sym (whole (passage_at c.args.own c.args.floor) c.args.scene.now)
-    ∙ one_blocks (passage_at c.args.own c.args.floor) c.args.scene.now c.loop-m.m-index _ _ c.loop-m-test.true c.passage_of.ensures (is_none_lem _ _ c.is_none.ensures c.if-is_none.true)
-
 pub returns : goal.returns
-returns c = no
+unfolding clears_at
+returns c =
+    let at = passage_at c.args.own c.args.floor in
+    found_blocks _ at c.args.scene.now c.any.result (cases_from_any _ _ c.any.result (λ m. at m ≡ None) (λ m. Unit {0}) c.any.ensures.ran
+    (YieldsList-from_slice c.args.scene.now c.iter.ensures.rest) (λ x q k. search rules) (λ x q k. search rules))

@@ -17,4 +17,4 @@ listed c =
 
 pub returns : goal.returns
 unfolding floor_of targets
-returns c = rw (c.word_or.ensures, c.search_words.ensures, c.smallest-found.ensures, c.new-search.ensures.own, c.new-search.ensures.floor, c.new-search.ensures.scene, listed c, c.float_at-5.ensures, c.float_at-4.ensures, c.port.ensures, c.starboard.ensures, c.float_at-3.ensures, c.vessel-own.ensures, c.float_at-2.ensures, c.float_at.ensures, c.permitted_sides-may.ensures) refl
+returns c = rw (c.word_or.ensures, c.search_words.ensures, c.smallest-found.ensures, c.new-search.ensures.own, c.new-search.ensures.floor, c.new-search.ensures.scene, listed c, c.float_at-5.ensures, c.float_at-4.ensures, c.from.ensures, c.float_at-3.ensures, c.vessel-own.ensures, c.float_at-2.ensures, c.float_at.ensures, c.permitted_sides.ensures) refl

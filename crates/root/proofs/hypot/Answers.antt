@@ -1,12 +1,13 @@
-use Rattle.laws.proofs.Exact.{zero_by_zero}
-use Rattle.root.proofs.HypotCode.{second_larger, first-larger, outside}
+use mathlib.Core.Path.{refl}
+use lib.Ieee.{of_bits}
+use Rattle.std.proofs.lemmas.Bool.{and_left, and_right}
+use Rattle.root.proofs.HypotCode.{outside}
 use Rattle.root.proofs.hypot.Goals as goal
-
-pub returns-then-a-b : goal.returns-then-a-b
-returns-then-a-b c = second_larger c.args.x c.args.y c.abs-a.result c.abs-b.result c.hypot_ordered.result c.abs-a.ensures c.abs-b.ensures c.if-inside.true c.if-a-b.true c.hypot_ordered.ensures
-
-pub returns-then-inside : goal.returns-then-inside
-returns-then-inside c = first-larger c.args.x c.args.y c.abs-a.result c.abs-b.result c.hypot_ordered-then-inside.result c.abs-a.ensures c.abs-b.ensures c.if-inside.true c.if-a-b.false c.hypot_ordered-then-inside.ensures
+use Rattle.root.proofs.hypot.Goals.{else-a-via-then-a+else-b, else-a-via-else-a}
 
 pub returns : goal.returns
-returns c = outside c.args.x c.args.y c.abs-a.result c.abs-b.result _ c.abs-a.ensures c.abs-b.ensures c.if-inside.false zero_by_zero
+unfolding of_bits
+returns c = outside c.args.x c.args.y c.abs-a.result c.abs-b.result _ c.abs-a.ensures c.abs-b.ensures (elim c.else-a.branch [
+  | else-a-via-then-a+else-b w ↦ and_right _ _ w.if-b.false
+  | else-a-via-else-a w ↦ and_left _ _ w.if-a.false
+]) refl

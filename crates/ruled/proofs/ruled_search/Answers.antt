@@ -1,4 +1,7 @@
 use mathlib.Core.Path.{◌≡◌, refl, sym, ap, ◌∙◌}
+use mathlib.Core.Bool.{◌||◌}
+use Rattle.std.specs.Prelude.{Err}
+use Rattle.std.proofs.Common.{rules}
 use mathlib.Core.List.{map}
 use lib.Seq.{take_all}
 use Rattle.room.specs.Room.{max_contacts}
@@ -8,7 +11,8 @@ use Rattle.ruled_laws.specs.Held.{HeldArguments}
 use Rattle.ruled_laws.proofs.Accepted as Accepted
 use Rattle.arguments.proofs.Checks.{handed_on}
 use Rattle.ruled.proofs.Held.{is_held}
-use Rattle.ruled.proofs.Steps.{no_side, searched, accepted, refused}
+use Rattle.ruled.proofs.Steps.{is_good, is_bad, no_side, searched, accepted, refused}
+use Rattle.ruled.proofs.ruled_search.Goals.{then-sides, else-sides}
 use Rattle.ruled.proofs.ruled_search.Goals as goal
 
 -- the scene has all contacts
@@ -24,13 +28,17 @@ held c = record {
   most = is_held c.well_formed.1.1.1.0.1.1.1.1.0.1.1.0.1;
 }
 
-pub returns-then-sides : goal.returns-then-sides
-returns-then-sides c = accepted _ _ _ _ _ _ _ (held c) _ c.in_ok-check_arguments.ensures.checked refl _
-    (searched _ _ _ _ _ _ _ c.shared_sides-sides.ensures c.if-sides.true _ _ _ _ _ (ap (λ a. a.0) c.least_alteration.ensures)
-    (ap (λ a. a.0) c.most_alteration.ensures) (c.deref.ensures.0 ∙ scene_is c)
-    (rw (c.new-search.ensures.own, c.new-search.ensures.floor, c.new-search.ensures.scene) at c.smallest.ensures) c.chosen_answer.ensures)
+-- what is asked: whether a side is shared
+asked : (c : goal.After-chosen_answer) → c.if-sides.ensure ≡ c.shared_sides-sides.result.starboard || c.shared_sides-sides.result.port
+asked c = elim c.if-sides.branch [ then-sides w ↦ search rules | else-sides w ↦ search rules ]
 
-held_2 : (c : goal.Else-sides) → HeldArguments c.args.around.own c.args.t.now c.args.constraints
+pub returns : goal.returns
+returns c = accepted _ _ _ _ _ _ _ (held c) _ c.in_ok-check_arguments.ensures.checked refl _
+    (searched _ _ _ _ _ _ _ c.shared_sides-sides.ensures (sym (asked c) ∙ is_good _ _ c.in_ok-ensure.ensures) _ _ _ _ _ c.trials.ensures.least
+    c.trials.ensures.most (c.deref.ensures.0 ∙ scene_is c)
+    (rw (c.new-search.ensures.own, c.new-search.ensures.floor, c.new-search.ensures.scene) at c.smallest-choice.ensures) c.chosen_answer.ensures)
+
+held_2 : (c : goal.After-from_residual-in_err-ensure) → HeldArguments c.args.around.own c.args.t.now c.args.constraints
 held_2 c = record {
   vessel = record { course = is_held c.well_formed.0.1.1.0.1.1.0.1.1.0.1.1.0.1; speed = is_held c.well_formed.0.1.1.0.1.1.0.1.1.1.0.1.1.0.1 };
   each = c.in_ok-check_arguments.ensures.held;
@@ -38,8 +46,14 @@ held_2 c = record {
   most = is_held c.well_formed.1.1.1.0.1.1.1.1.0.1.1.0.1;
 }
 
-pub returns : goal.returns
-returns c = accepted _ _ _ _ _ _ _ (held_2 c) _ c.in_ok-check_arguments.ensures.checked refl _ (no_side _ _ _ _ _ _ _ c.shared_sides-sides.ensures c.if-sides.false)
+asked_2 : (c : goal.After-from_residual-in_err-ensure) → c.if-sides.ensure ≡ c.shared_sides-sides.result.starboard || c.shared_sides-sides.result.port
+asked_2 c = elim c.if-sides.branch [ then-sides w ↦ search rules | else-sides w ↦ search rules ]
+
+pub returns-in_err-ensure : goal.returns-in_err-ensure
+returns-in_err-ensure c =
+    let bad = is_bad _ _ _ c.in_err-ensure.ensures in
+    accepted _ _ _ _ _ _ _ (held_2 c) _ c.in_ok-check_arguments.ensures.checked refl _
+    (handed_on _ _ c.from_residual-in_err-ensure.ensures.1 ∙ ap Err bad.1 ∙ no_side _ _ _ _ _ _ _ c.shared_sides-sides.ensures (sym (asked_2 c) ∙ bad.0))
 
 pub returns-in_err-check_arguments : goal.returns-in_err-check_arguments
 returns-in_err-check_arguments c = rw (handed_on _ _ c.from_residual.ensures.1) (refused _ _ _ _ _ _ _ _ c.in_err-check_arguments.ensures.checked)

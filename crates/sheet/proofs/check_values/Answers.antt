@@ -4,6 +4,7 @@ use Rattle.constraints.specs.Constraints.{alteration_checks}
 use Rattle.sheet_values.specs.Values.{scaled, own_of, wind_from}
 use Rattle.sheet.specs.Sheet.{limit_checks, value_checks}
 use Rattle.arguments.proofs.Checks.{refused_by, accepted}
+use Rattle.sheet.proofs.Steps.{turn_accepted, turn_refused, limits_accepted, limits_refused}
 use Rattle.sheet.proofs.check_values.Goals as goal
 
 pub returns-in_err-check_vessel : goal.returns-in_err-check_vessel
@@ -12,20 +13,20 @@ returns-in_err-check_vessel c = refused_by (vessel_checks (own_of c.args.h).moti
 
 pub returns-in_err-check_distance : goal.returns-in_err-check_distance
 unfolding value_checks
-returns-in_err-check_distance c = accepted (vessel_checks (own_of c.args.h).motion) _ _ _ (rw c.own_of-own.ensures at c.in_ok-check_vessel.ensures) (refused_by (distance_checks (record { 0 = scaled c.args.h.desired })) _ _ _ _ c.from_residual-in_err-check_distance.ensures.1 (rw c.scaled-3.ensures at c.in_err-check_distance.ensures))
+returns-in_err-check_distance c = accepted (vessel_checks (own_of c.args.h).motion) _ _ _ (rw c.own_of-own.ensures at c.in_ok-check_vessel.ensures) (refused_by (distance_checks (record { 0 = scaled c.args.h.desired })) _ _ _ _ c.from_residual-in_err-check_distance.ensures.1 (rw c.scaled.ensures at c.in_err-check_distance.ensures))
 
-pub returns-in_err-check_alterations : goal.returns-in_err-check_alterations
+pub returns-in_err-constraints_on : goal.returns-in_err-constraints_on
 unfolding value_checks
-returns-in_err-check_alterations c = accepted (vessel_checks (own_of c.args.h).motion) _ _ _ (rw c.own_of-own.ensures at c.in_ok-check_vessel.ensures) (accepted (distance_checks (record { 0 = scaled c.args.h.desired })) _ _ _ (rw c.scaled-3.ensures at c.in_ok-check_distance.ensures) (refused_by (alteration_checks (record { 0 = scaled c.args.h.least }) (record { 0 = scaled c.args.h.most })) _ _ _ _ c.from_residual-in_err-check_alterations.ensures.1 (rw (c.scaled.ensures, c.scaled-2.ensures) at c.in_err-check_alterations.ensures)))
+returns-in_err-constraints_on c = accepted (vessel_checks (own_of c.args.h).motion) _ _ _ (rw c.own_of-own.ensures at c.in_ok-check_vessel.ensures) (accepted (distance_checks (record { 0 = scaled c.args.h.desired })) _ _ _ (rw c.scaled.ensures at c.in_ok-check_distance.ensures) (refused_by (alteration_checks (record { 0 = scaled c.args.h.least }) (record { 0 = scaled c.args.h.most })) _ _ _ _ c.from_residual-in_err-constraints_on.ensures.1 (turn_refused c.args.h _ c.in_err-constraints_on.ensures)))
 
-pub returns-in_err-check_limits : goal.returns-in_err-check_limits
+pub returns-in_err-policy_on : goal.returns-in_err-policy_on
 unfolding value_checks
-returns-in_err-check_limits c = accepted (vessel_checks (own_of c.args.h).motion) _ _ _ (rw c.own_of-own.ensures at c.in_ok-check_vessel.ensures) (accepted (distance_checks (record { 0 = scaled c.args.h.desired })) _ _ _ (rw c.scaled-3.ensures at c.in_ok-check_distance.ensures) (accepted (alteration_checks (record { 0 = scaled c.args.h.least }) (record { 0 = scaled c.args.h.most })) _ _ _ (rw (c.scaled.ensures, c.scaled-2.ensures) at c.in_ok-check_alterations.ensures) (refused_by (limit_checks c.args.h) _ _ _ _ c.from_residual-in_err-check_limits.ensures.1 c.in_err-check_limits.ensures)))
+returns-in_err-policy_on c = accepted (vessel_checks (own_of c.args.h).motion) _ _ _ (rw c.own_of-own.ensures at c.in_ok-check_vessel.ensures) (accepted (distance_checks (record { 0 = scaled c.args.h.desired })) _ _ _ (rw c.scaled.ensures at c.in_ok-check_distance.ensures) (accepted (alteration_checks (record { 0 = scaled c.args.h.least }) (record { 0 = scaled c.args.h.most })) _ _ _ (turn_accepted c.args.h _ c.in_ok-constraints_on.ensures) (refused_by (limit_checks c.args.h) _ _ _ _ c.from_residual-in_err-policy_on.ensures.1 (limits_refused c.args.h _ c.in_err-policy_on.ensures))))
 
 pub returns-in_err-check_perhaps : goal.returns-in_err-check_perhaps
 unfolding value_checks
-returns-in_err-check_perhaps c = accepted (vessel_checks (own_of c.args.h).motion) _ _ _ (rw c.own_of-own.ensures at c.in_ok-check_vessel.ensures) (accepted (distance_checks (record { 0 = scaled c.args.h.desired })) _ _ _ (rw c.scaled-3.ensures at c.in_ok-check_distance.ensures) (accepted (alteration_checks (record { 0 = scaled c.args.h.least }) (record { 0 = scaled c.args.h.most })) _ _ _ (rw (c.scaled.ensures, c.scaled-2.ensures) at c.in_ok-check_alterations.ensures) (accepted (limit_checks c.args.h) _ _ _ c.in_ok-check_limits.ensures (refused_by (perhaps_checks (wind_from c.args.h)) _ _ _ _ c.from_residual-in_err-check_perhaps.ensures.1 (rw c.wind_from-wind.ensures at c.in_err-check_perhaps.ensures)))))
+returns-in_err-check_perhaps c = accepted (vessel_checks (own_of c.args.h).motion) _ _ _ (rw c.own_of-own.ensures at c.in_ok-check_vessel.ensures) (accepted (distance_checks (record { 0 = scaled c.args.h.desired })) _ _ _ (rw c.scaled.ensures at c.in_ok-check_distance.ensures) (accepted (alteration_checks (record { 0 = scaled c.args.h.least }) (record { 0 = scaled c.args.h.most })) _ _ _ (turn_accepted c.args.h _ c.in_ok-constraints_on.ensures) (accepted (limit_checks c.args.h) _ _ _ (limits_accepted c.args.h _ c.in_ok-policy_on.ensures) (refused_by (perhaps_checks (wind_from c.args.h)) _ _ _ _ c.from_residual-in_err-check_perhaps.ensures.1 (rw c.wind_from-wind.ensures at c.in_err-check_perhaps.ensures)))))
 
 pub returns : goal.returns
 unfolding value_checks
-returns c = accepted (vessel_checks (own_of c.args.h).motion) _ _ _ (rw c.own_of-own.ensures at c.in_ok-check_vessel.ensures) (accepted (distance_checks (record { 0 = scaled c.args.h.desired })) _ _ _ (rw c.scaled-3.ensures at c.in_ok-check_distance.ensures) (accepted (alteration_checks (record { 0 = scaled c.args.h.least }) (record { 0 = scaled c.args.h.most })) _ _ _ (rw (c.scaled.ensures, c.scaled-2.ensures) at c.in_ok-check_alterations.ensures) (accepted (limit_checks c.args.h) _ _ _ c.in_ok-check_limits.ensures (accepted (perhaps_checks (wind_from c.args.h)) _ _ _ (rw c.wind_from-wind.ensures at c.in_ok-check_perhaps.ensures) c.check_contacts.ensures.checked))))
+returns c = accepted (vessel_checks (own_of c.args.h).motion) _ _ _ (rw c.own_of-own.ensures at c.in_ok-check_vessel.ensures) (accepted (distance_checks (record { 0 = scaled c.args.h.desired })) _ _ _ (rw c.scaled.ensures at c.in_ok-check_distance.ensures) (accepted (alteration_checks (record { 0 = scaled c.args.h.least }) (record { 0 = scaled c.args.h.most })) _ _ _ (turn_accepted c.args.h _ c.in_ok-constraints_on.ensures) (accepted (limit_checks c.args.h) _ _ _ (limits_accepted c.args.h _ c.in_ok-policy_on.ensures) (accepted (perhaps_checks (wind_from c.args.h)) _ _ _ (rw c.wind_from-wind.ensures at c.in_ok-check_perhaps.ensures) c.check_contacts.ensures.checked))))

@@ -1,28 +1,27 @@
-use mathlib.Core.Path.{ap, ◌∙◌}
 use native.Mathlib.Omega.{arith}
+use mathlib.Core.Path.{ap, ◌∙◌}
 use lib.ListN.{length}
 use Rattle.std.proofs.Common.{lit<}
 use Rattle.sheet_words.specs.Word.{words}
-use Rattle.sheet_words.proofs.Words.{at_most_ten}
 use Rattle.sheet_record.specs.Record.{first_rows}
-use Rattle.sheet_record.proofs.Filling.{one_more, all_read, as_many}
+use Rattle.sheet_record.proofs.Filling.{one_more, made_row, all_read, as_many}
 use Rattle.sheet_record.proofs.rows_of.Goals as goal
 
-pub loop-i-init : goal.loop-i-init
+pub loop-contact-init : goal.loop-contact-init
 unfolding first_rows
-loop-i-init c = (omega arith, c.new-rows.ensures)
-
-pub overflow_mul-i : goal.overflow_mul-i
-overflow_mul-i c = omega (arith, c.loop-i-test.true, c.held-n.ensures)
-
-pub overflow_add-first : goal.overflow_add-first
-overflow_add-first c = omega (arith, c.loop-i-test.true, c.held-n.ensures, c.header_length-first.ensures, at_most_ten (words c.args.bytes.now))
+loop-contact-init c = c.new-rows.ensures
 
 pub push-requires : goal.push-requires
-push-requires c = (lit< tt, omega (arith, c.loop-i-test.true, c.held-n.ensures, ap length c.loop-i.invariant.1, as_many (words c.args.bytes.now) c.loop-i.i))
+push-requires c = (lit< tt, omega (arith, c.loop-contact-test.true, c.first-contact-items.ensures.fits, ap length c.loop-contact.invariant, as_many (words c.args.bytes.now) c.loop-contact.contact-index))
 
-pub loop-i-preserved : goal.loop-i-preserved
-loop-i-preserved c = (omega (arith, c.loop-i-test.true), c.push.ensures.items ∙ one_more _ c.loop-i.rows.items _ _ _ (omega (arith, c.loop-i-test.true, c.held-n.ensures)) c.header_length-first.ensures c.row_from.ensures c.loop-i.invariant.1)
+pub loop-contact-preserved : goal.loop-contact-preserved
+loop-contact-preserved c =
+    c.push.ensures.items
+    ∙ one_more _ c.loop-contact.rows.items c.loop-contact.contact-index _
+    (made_row _ _ c.words_of-words.ensures _ (c.min-header.ensures ∙ ap (λ n. Prim.Native.Nat.min n (length c.words_of-words.result.now)) c.header_length.ensures) _ _ c.as_chunks.ensures.front c.as_chunks.ensures.front_len c.first-contact-items.ensures.value c.loop-contact.contact-index _ _ c.loop-contact-test.true c.row_of.ensures)
+    c.loop-contact.invariant
 
 pub returns : goal.returns
-returns c = all_read _ c.loop-i.rows.items _ _ _ (omega (arith, c.loop-i-test.false, c.loop-i.invariant.0)) c.held-n.ensures c.contact_count.ensures c.loop-i.invariant.1
+returns c =
+    all_read _ _ c.words_of-words.ensures _ (c.min-header.ensures ∙ ap (λ n. Prim.Native.Nat.min n (length c.words_of-words.result.now)) c.header_length.ensures) _ _ c.as_chunks.ensures.front c.as_chunks.ensures.front_len c.first-contact-items.ensures.value c.loop-contact.rows.items
+    c.loop-contact.contact-index (omega (arith, c.loop-contact-test.false, c.loop-contact.auto.contact-index-end)) c.loop-contact.invariant

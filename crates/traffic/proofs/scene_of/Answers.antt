@@ -16,7 +16,7 @@ pub push-requires : goal.push-requires
 push-requires c = (lit< tt, omega (arith, ap length c.loop-e.invariant, made-length moving_of c.first-held.result.now c.loop-e.e-index c.loop-e.auto.e-index-end, c.loop-e-test.true, c.first-held.ensures.fits))
 
 pub loop-e-preserved : goal.loop-e-preserved
-loop-e-preserved c = c.push.ensures.items ∙ one_more moving_of c.first-held.result.now c.loop-e.scene.items c.loop-e.e-index _ _ c.loop-e-test.true (c.moving_of.ensures ∙ ap moving c.target_of.ensures) c.loop-e.invariant
+loop-e-preserved c = c.push.ensures.items ∙ one_more moving_of c.first-held.result.now c.loop-e.scene.items c.loop-e.e-index _ _ c.loop-e-test.true (c.from-in-loop-e.ensures ∙ ap moving c.from.ensures) c.loop-e.invariant
 
 pub returns : goal.returns
 unfolding targets

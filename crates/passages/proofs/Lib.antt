@@ -1,2 +1,0 @@
--- What the code of one contact owes.
-mod Steps
