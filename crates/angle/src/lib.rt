@@ -7,7 +7,8 @@ ghost use Rattle.angle.specs.Fold as Fold;
 
 use turns::FULL_TURN;
 
-const HALF_TURN: f64 = 180.0;
+// Half a turn, in degrees.
+pub const HALF_TURN: f64 = FULL_TURN / 2.0;
 
 // The whole fold: the same direction, from 0 up to but not including 360.
 pub fn wrap360(degrees: f64) -> f64

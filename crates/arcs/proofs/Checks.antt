@@ -6,7 +6,6 @@ use native.Mathlib.Nat.{le_of_lt, le_refl, le_trans, lt_irrefl, div-le_self, sub
 use native.Mathlib.Omega.{arith}
 use lib.Arith.{lt→nleb}
 use lib.Dec.{T, leb, le→leb}
-use lib.Ieee.Bits.{is_true, is_false}
 use lib.Ieee.Fits.{and_r}
 use Rattle.std.specs.Prelude.{None, Some}
 use Rattle.std.specs.Bool.{then_some}
@@ -45,14 +44,6 @@ unfolding not_above
 under_is u w a s c g h p q x y = cc
 
 -- ---- the search by halves
-pub too_far : (p : ℕ → Bool) (a : ℕ) → last_step < a → false ≡ up_to last_step p a
-unfolding up_to
-too_far p a h = rw (is_false (leb a last_step) (lt→nleb a last_step h)) refl
-
-pub near_enough : (p : ℕ → Bool) (a : ℕ) (t : Bool) → a ≤ last_step → t ≡ p a → t ≡ up_to last_step p a
-unfolding up_to
-near_enough p a t h e = rw (is_true (leb a last_step) (le→leb a last_step h)) e
-
 pub begins : (p : ℕ → Bool) → greatest 49 (up_to last_step p) 0 ≡ greatest_to 49 last_step p
 unfolding greatest_to
 begins p = refl
@@ -81,9 +72,9 @@ rest_here e f a z y t g hf h ez ey ly et eg p q =
       next = λ k. lt→nleb (rest_step f (a + 1)) (2 * (e * (f * f))) (up.certified f a (2 * (e * (f * f))) y hf (le_of_lt h) (ey ∙ ap (λ v. v / (f * f)) ez) ly (rw (et, eg) at q));
     }
 
-pub rest_passes : (e f a t : ℕ) → t ≡ rest_step f a → t ≤ 2 * (e * (f * f)) → T (fits_in e f a)
+pub rest_passes : (e f a t n : ℕ) → n ≡ 2 * (e * (f * f)) → t ≡ rest_step f a → t ≤ n → T (fits_in e f a)
 unfolding fits_in
-rest_passes e f a t et p = le→leb (rest_step f a) (2 * (e * (f * f))) (rw et at p)
+rest_passes e f a t n en et p = le→leb (rest_step f a) (2 * (e * (f * f))) (rw (et, en) at p)
 
 pub tangent_here : (u w a z s c g h x y : ℕ) → u ≤ 2 ^ 58 → w ≤ 2 ^ 58 → a < last_step → z ≡ 512 * a * (512 * a) / 2 ^ 58 → z ≤ 2 ^ 58 → s ≡ sine_step a → c ≡ cosine_step a → g ≡ u * s / 2 ^ 58 → h ≡ w * c / 2 ^ 58 → x ≡ u * (2 ^ 58 - z / 2) / 2 ^ 58 → y ≡ w * (512 * a - 512 * a / 6) / 2 ^ 58
     → g ≤ h → h + 17 ≤ g + (x + y) / 2 ^ 49 → Found last_step (not_above u w) a
@@ -146,8 +137,8 @@ module _ (a z : ℕ) (ha : a < last_step) (pz : Product (512 * a) (512 * a) z) w
   pub sine_settled : (x q s : ℕ) → SineSeries z q → Product (512 * a) q s → s ≤ x → x - s + 10 ≤ (2 ^ 58 - z / 2) / 2 ^ 49 → Found last_step (at_most x) a
   sine_settled x q s pq ps p e = sine_here x a z s ha square_is (sine_of q s pq ps) p e
 
-  pub rest_settled : (e f q t g : ℕ) → 0 < f → CosineSeries (z / (f * f)) q → Product z q t → Product (512 * a) (2 ^ 58 - z / (f * f) / 6) g → t ≤ 2 * (e * (f * f)) → 2 * (e * (f * f)) + 9 ≤ t + g / 2 ^ 48 → Found last_step (fits_in e f) a
-  rest_settled e f q t g hf pq pt pg p h = rest_here e f a z (z / (f * f)) t g hf ha square_is refl (rest-small f) (rest-value f q t pq pt) (pg.0 (angle_small a ha) (sub-le (2 ^ 58) _)) p h
+  pub rest_settled : (e f q t g n : ℕ) → 0 < f → n ≡ 2 * (e * (f * f)) → CosineSeries (z / (f * f)) q → Product z q t → Product (512 * a) (2 ^ 58 - z / (f * f) / 6) g → t ≤ n → n + 9 ≤ t + g / 2 ^ 48 → Found last_step (fits_in e f) a
+  rest_settled e f q t g n hf en pq pt pg p h = rest_here e f a z (z / (f * f)) t g hf ha square_is refl (rest-small f) (rest-value f q t pq pt) (pg.0 (angle_small a ha) (sub-le (2 ^ 58) _)) (rw en at p) (rw en at h)
 
   module _ (u w q s k t g h : ℕ) (hu : u ≤ 2 ^ 58) (hw : w ≤ 2 ^ 58) (pq : SineSeries z q) (ps : Product (512 * a) q s) (pk : CosineSeries z k) (pt : Product z k t) (pg : Product u s g) (ph : Product w (2 ^ 58 - t / 2) h) (p : g ≤ h) where
     sine_within : s ≤ 2 ^ 58

@@ -4,21 +4,17 @@
 //
 // The quotients of polynomials are the best of their degrees, in the angle's absolute error: about 10^-17 for the arctangent,
 // 4 * 10^-17 for the arcsine up to a quarter pi, 9 * 10^-17 for the rest.
-ghost use Rattle.std.specs.Prelude.{◌*◌, ◌^◌, ◌≤◌};
-
+use crate::{AtMost, FitsIn, NotAbove};
 use series::GRID;
 
 // 2^-54.
-const HALF_GRID: f64 = 5.551115123125783e-17;
+const HALF_GRID: f64 = GRID / 2.0;
 
 // An angle from 0 to 8 in steps of 2^-49, cut: half a step less than 8 is added, which leaves the steps in the low digits of a
 // number from 8 to 16.
 fn steps(angle: f64) -> u64 {
     let raised = angle + 7.999999999999999;
-    if raised < 8.0 {
-        return 0;
-    }
-    if raised < 16.0 {
+    if 8.0 <= raised && raised < 16.0 {
         return f64::to_bits(raised) & 0xf_ffff_ffff_ffff;
     }
     0
@@ -35,10 +31,8 @@ fn quintic(z: f64, c0: f64, c1: f64, c2: f64, c3: f64, c4: f64, c5: f64) -> f64 
 }
 
 // The arcsine of x units, up to a quarter pi.
-pub(crate) fn sine(x: u64) -> u64
-    requires { x ≤ 2 ^ 58 }
-{
-    let s = (x / 32) as f64 * GRID;
+pub(crate) fn sine(goal: AtMost) -> u64 {
+    let s = (goal.x / 32) as f64 * GRID;
     let z = s * s;
     let p = quintic(
         z,
@@ -62,9 +56,8 @@ pub(crate) fn sine(x: u64) -> u64
 }
 
 // The arctangent of w / u, for w up to u.
-pub(crate) fn tangent(u: u64, w: u64) -> u64
-    requires { (u ≤ 2 ^ 58) × (w ≤ 2 ^ 58) }
-{
+pub(crate) fn tangent(goal: NotAbove) -> u64 {
+    let NotAbove { u, w } = goal;
     let t = (w / 32) as f64 / (u / 32) as f64;
     let z = t * t;
     let p = quintic(
@@ -96,9 +89,8 @@ fn nearer(v: f64, y: f64) -> f64 {
 
 // f times the angle whose cosine is e units below one, for e * f^2 from 2^54 to 0.293 * 2^58: twice the arcsine of the root
 // of half that rest.
-pub(crate) fn rest(e: u64, f: u64) -> u64
-    requires { (e ≤ 2 ^ 58) × (f ≤ 2 ^ 28) × (e * (f * f) ≤ 2 ^ 58) }
-{
+pub(crate) fn rest(goal: FitsIn) -> u64 {
+    let FitsIn { e, f } = goal;
     let v = (e * (f * f) / 32) as f64 * HALF_GRID;
     let y = cubic(
         v,

@@ -18,7 +18,7 @@ ghost use Rattle.arcs.specs.Goal as Goal;
 use series::ONE;
 
 // The grid's last step, a quarter pi, and its sine in units.
-const LAST: u64 = 442139859501777;
+const LAST: u64 = HALF_PI / 16;
 
 const SINE_OF_LAST: u64 = 203809653520824534;
 
@@ -26,7 +26,7 @@ const SINE_OF_LAST: u64 = 203809653520824534;
 const STEP: u64 = 562949953421312;
 
 // Half pi in steps of 2^-52.
-const HALF_PI: u64 = 7074237752028440;
+pub const HALF_PI: u64 = 7074237752028440;
 
 // What is searched for: the last step of the grid that passes a test.
 trait Goal: Copy {
@@ -66,14 +66,14 @@ trait Goal: Copy {
 
 // The sine is at most x units.
 #[derive(Clone, Copy)]
-struct AtMost {
+pub(crate) struct AtMost {
     x: u64,
     ghost small: { x ≤ 2 ^ 58 },
 }
 
 // The angle, over f, has a cosine that is at most e units below one.
 #[derive(Clone, Copy)]
-struct FitsIn {
+pub(crate) struct FitsIn {
     e: u64,
     f: u64,
     ghost below_one: { e ≤ 2 ^ 58 },
@@ -85,7 +85,7 @@ struct FitsIn {
 
 // u times the sine is at most w times the cosine.
 #[derive(Clone, Copy)]
-struct NotAbove {
+pub(crate) struct NotAbove {
     u: u64,
     w: u64,
     ghost small_u: { u ≤ 2 ^ 58 },
@@ -108,12 +108,21 @@ fn cosine_at(a: u64) -> u64
     series::cosine(512 * a)
 }
 
-fn rest_at(f: u64, a: u64) -> u64
-    requires { (0 < f) × (f ≤ 2 ^ 28) × (a ≤ last_step) }
-    ensures { (result ≡ rest_step f a) × (result ≤ 2 ^ 58) }
-{
-    let z = series::product(512 * a, 512 * a);
-    series::product(z, series::cosine_series(z / (f * f)))
+impl FitsIn {
+    // Twice e * f^2, which the scaled rest is held against.
+    fn twice(self) -> u64
+        ensures { (result ≡ 2 * (self.e * (self.f * self.f))) × (result ≤ 2 ^ 59) }
+    {
+        2 * (self.e * (self.f * self.f))
+    }
+
+    fn rest_at(self, a: u64) -> u64
+        requires { a ≤ last_step }
+        ensures { (result ≡ rest_step self.f a) × (result ≤ 2 ^ 58) }
+    {
+        let z = series::product(512 * a, 512 * a);
+        series::product(z, series::cosine_series(z / (self.f * self.f)))
+    }
 }
 
 impl Goal for AtMost {
@@ -122,7 +131,7 @@ impl Goal for AtMost {
     ghost Steady = { λ _. Unit {0} };
 
     fn guess(self) -> u64 {
-        guess::sine(self.x)
+        guess::sine(self)
     }
 
     fn holds(self, a: u64) -> bool {
@@ -130,7 +139,7 @@ impl Goal for AtMost {
     }
 
     fn told(self, a: u64) -> Option<bool> {
-        let x = self.x;
+        let AtMost { x } = self;
         let r = 512 * a;
         let z = series::product(r, r);
         let s = series::product(r, series::sine_series(z));
@@ -151,20 +160,18 @@ impl Goal for FitsIn {
     ghost Steady = { λ _. Unit {0} };
 
     fn guess(self) -> u64 {
-        guess::rest(self.e, self.f)
+        guess::rest(self)
     }
 
     fn holds(self, a: u64) -> bool {
-        let FitsIn { e, f } = self;
-        rest_at(f, a) <= 2 * (e * (f * f))
+        self.rest_at(a) <= self.twice()
     }
 
     fn told(self, a: u64) -> Option<bool> {
-        let FitsIn { e, f } = self;
-        let twice = 2 * (e * (f * f));
+        let twice = self.twice();
         let r = 512 * a;
         let z = series::product(r, r);
-        let y = z / (f * f);
+        let y = z / (self.f * self.f);
         let t = series::product(z, series::cosine_series(y));
         if twice < t {
             return Some(false);
@@ -183,7 +190,7 @@ impl Goal for NotAbove {
     ghost Steady = { λ g. (2 ^ 57 ≤ g.u) × (g.w ≤ g.u) };
 
     fn guess(self) -> u64 {
-        guess::tangent(self.u, self.w)
+        guess::tangent(self)
     }
 
     fn holds(self, a: u64) -> bool {
@@ -211,13 +218,11 @@ impl Goal for NotAbove {
 }
 
 // ---- the search by halves
+#[tactic(auto, unfolding(grid::specs::Search::up_to))]
 fn passes<G: Goal>(goal: G, a: u64) -> bool
     ensures { result ≡ up_to last_step (G.test goal) a }
 {
-    if LAST < a {
-        return false;
-    }
-    goal.holds(a)
+    a <= LAST && goal.holds(a)
 }
 
 fn by_halves<G: Goal>(goal: G) -> u64

@@ -15,7 +15,7 @@ use motion::vessel::{Contact, Vessel};
 use passages::{Moving, Target};
 use seeds::{courses_in, seeded_choice};
 
-// Apart from `ruled`'s of this name: one function would need one type of answer, and this one is a signed alteration that no contact limits.
+// Apart from `ruled`'s of this name: `avoid` answers `AvoidanceManoeuvre`, the Rust's type, and `ruled` the other, which says why there are two.
 fn manoeuvre_of(own: Vessel, c: ManoeuvreConstraints, x: Chosen) -> AvoidanceManoeuvre
     ensures { result ≡ Spec.manoeuvre_of own c x }
 {

@@ -1,6 +1,7 @@
 -- Arguments of avoidance from codes and floats.
-use Rattle.std.specs.Prelude.{Bool, cond, List, [], ◌∷◌, ◌++◌, ℕ, zero, suc, ◌+◌, ◌*◌, ◌/◌, ◌%◌, min, eqb, get_or, Float, Err, Ok}
+use Rattle.std.specs.Prelude.{cond, List, [], ◌∷◌, ◌++◌, ℕ, zero, suc, ◌+◌, ◌*◌, ◌/◌, ◌%◌, min, eqb, get_or, Float, Err, Ok}
 use Rattle.math.specs.Cast.{to_usize}
+use Rattle.avoidance_codes.specs.declared.Layout.{Layout}
 use Rattle.constraints.specs.declared.PermittedSides.{PermittedSides}
 use Rattle.constraints.specs.declared.PermittedSides.TheVariants as Permitted
 use Rattle.constraints.specs.declared.ManoeuvreConstraints.{ManoeuvreConstraints}
@@ -36,14 +37,15 @@ entry_at floats i =
       target = Codes.party (code % 8) (code / 8) (at floats (i + 2)) (at floats (i + 3)) (at floats (i + 4));
     }
 
-unfoldable pub place_of : Bool → ℕ → ℕ
-place_of wide i = cond wide (8 + 6 * i) (5 + 4 * i)
+unfoldable pub place_of : Layout → ℕ → ℕ
+place_of Layout.Search i = 5 + 4 * i
+place_of Layout.Ruled i = 8 + 6 * i
 
 -- the first n contacts
-unfoldable pub first_of : Bool → List Float → ℕ → List Entry
-first_of wide floats zero = []
-first_of wide floats (suc n) = first_of wide floats n ++ (entry_at floats (place_of wide n) ∷ [])
+unfoldable pub first_of : Layout → List Float → ℕ → List Entry
+first_of layout floats zero = []
+first_of layout floats (suc n) = first_of layout floats n ++ (entry_at floats (place_of layout n) ∷ [])
 
 -- as many as there is room for
-unfoldable pub entries : Bool → List Float → ℕ → List Entry
-entries wide floats count = first_of wide floats (min count max_contacts)
+unfoldable pub entries : Layout → List Float → ℕ → List Entry
+entries layout floats count = first_of layout floats (min count max_contacts)

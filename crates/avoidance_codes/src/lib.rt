@@ -11,8 +11,8 @@ use motion::units::{Angle, RateOfTurn};
 use room::MAX_CONTACTS;
 use traffic::Entry;
 
-// 0 either side, 1 starboard, 2 and above port. A table, and no `From` as of `Visibility`, whose code a sheet has too: this one is the C interface's
-// alone.
+// 0 either side, 1 starboard, 2 and above port. A table, and no `From` as of `Visibility`, whose code a sheet has too: an impl would stand with the
+// type, in `constraints`, and this code is the C interface's alone.
 #[tactic(auto, unfolding(crate::specs::Codes::permitted_sides))]
 pub fn permitted_sides(code: u32) -> PermittedSides
     ensures { result ≡ Spec.permitted_sides code }
@@ -42,7 +42,8 @@ pub fn constraints_of(
     c.with_rate_of_turn(RateOfTurn(rate))
 }
 
-// Bearing, range, course, speed, heading, and a code: the category, and 8 more where the heading is known.
+// Bearing, range, course, speed, heading, and a code: the category, and 8 more where the heading is known. By places, and not as a chunk of the list:
+// an entry that the list ends in is read too, what is lacking being 0.
 #[tactic(auto, unfolding(crate::specs::Codes::entry_at))]
 fn entry_at(floats: &[f64], at: usize) -> Entry
     requires { at < 1000 }
@@ -60,23 +61,33 @@ fn entry_at(floats: &[f64], at: usize) -> Entry
     Entry { contact, target }
 }
 
-// Where a contact's floats begin: after eight of six each, or after five of four each, as the C function that lists them has it (`wide` or not).
+// Whose list the floats are: `avoidance_search` has four of each contact after the first five, `avoidance_ruled` six after the first eight.
+#[derive(Clone, Copy)]
+pub enum Layout {
+    Search,
+    Ruled,
+}
+
+// Where a contact's floats begin.
 #[tactic(auto, unfolding(crate::specs::Codes::place_of))]
-fn place_of(wide: bool, i: usize) -> usize
+fn place_of(layout: Layout, i: usize) -> usize
     requires { i < 100 }
-    ensures { result ≡ Spec.place_of wide i }
+    ensures { result ≡ Spec.place_of layout i }
 {
-    if wide { 8 + 6 * i } else { 5 + 4 * i }
+    match layout {
+        Layout::Search => 5 + 4 * i,
+        Layout::Ruled => 8 + 6 * i,
+    }
 }
 
 // The first `count` contacts of a list of floats, at most MAX_CONTACTS.
-pub fn traffic_of(wide: bool, count: usize, floats: &[f64]) -> ArrayVec<Entry, MAX_CONTACTS>
-    ensures { result.items ≡ Spec.entries wide floats.now count }
+pub fn traffic_of(layout: Layout, count: usize, floats: &[f64]) -> ArrayVec<Entry, MAX_CONTACTS>
+    ensures { result.items ≡ Spec.entries layout floats.now count }
 {
     let n = room::held(count);
     let mut t = ArrayVec::new();
     for i in 0..n {
-        t.push(entry_at(floats, place_of(wide, i)));
+        t.push(entry_at(floats, place_of(layout, i)));
     }
     t
 }

@@ -21,7 +21,8 @@ pub fn limiting_word(limiting: Option<usize>) -> u64
     limiting.map_or(0, |place| (place % 64) as u64 + 1)
 }
 
-// Side, size, course, passing distance and limiting contact are words already.
+// Side, size, course, passing distance and limiting contact are words already, as they were: the types of both answers' parts would ask more of who
+// calls it.
 pub fn turned(
     side: u64,
     size: u64,

@@ -24,7 +24,8 @@ fn smaller(best: Option<Best>, offer: Best) -> Option<Best>
         .or(Some(offer))
 }
 
-// One course more to choose from. No alteration at all belongs to neither side.
+// One course more to choose from. No alteration at all belongs to neither side. The arms stay two: a setter by side would need a definition and a
+// proof of its own, and the side and the sign would still be told apart here.
 #[tactic(auto, unfolding(crate::specs::Offers::offered))]
 pub fn offered(own_course: f64, course: f64, choice: Choice) -> Choice
     ensures { result ≡ Spec.offered own_course course choice }

@@ -27,11 +27,12 @@ pub fn crossing(seen: Relative, ahead: Components) -> Result<Distance, Refusal>
         offset,
         velocity,
     } = seen;
-    // Not by `cross`: its factors stand in another order and without the minus signs, so each product would need a law of f64s in the proof.
-    let determinant = velocity.north * -ahead.east - velocity.east * -ahead.north;
+    let determinant = velocity.cross(-ahead);
     if math::abs(determinant) < PARALLEL {
         return Err(Refusal::AlongOwnTrack);
     }
+    // The other two are not by `cross`: of the next one a sign stands elsewhere, of the last one the factors in another order, and each would need a
+    // law of f64s in the proof.
     let time = (-offset.north * -ahead.east + offset.east * -ahead.north) / determinant;
     if time <= 0.0 {
         return Err(Refusal::NotAhead);

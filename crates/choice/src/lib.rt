@@ -101,11 +101,9 @@ impl<'a> Search<'a> {
     fn try_both(&self, sides: Sides, magnitude: f64) -> Option<Chosen>
         ensures { result ≡ Spec.tried_both self.now.own self.now.floor self.now.scene.now sides magnitude }
     {
-        // A match: `or_else` has its closure's `F.post`, which says nothing where it borrows `&Search<'a>`; `find_map` has its `F.FnMut`, which does.
-        match self.try_side(sides.starboard, Side::Starboard, magnitude) {
-            Some(c) => Some(c),
-            None => self.try_side(sides.port, Side::Port, magnitude),
-        }
+        [Side::Starboard, Side::Port]
+            .into_iter()
+            .find_map(|side| self.try_side(sides.on(side), side, magnitude))
     }
 
     // The smallest trial on a permitted side that clears the scene.

@@ -23,8 +23,9 @@ use Rattle.motion.specs.declared.units.Distance.{Distance}
 use Rattle.motion.specs.declared.vessel.Vessel.{Vessel}
 use Rattle.motion.specs.declared.vessel.Components.{Components}
 use Rattle.motion.specs.Vessel.{velocity, direction_of, offset, relative_velocity}
-use Rattle.relative_motion.specs.declared.approach.Approach.{Approach}
-use Rattle.relative_motion.specs.declared.approach.Approach.TheVariants.{Closing, Opening, Stationary}
+use Rattle.relative_motion.specs.declared.approach.Cpa.{Cpa}
+use Rattle.relative_motion.specs.declared.approach.Track.{Track}
+use Rattle.relative_motion.specs.declared.approach.Track.TheVariants.{Closing, Opening, Stationary}
 use Rattle.relative_motion.specs.Approach.{stationary_knots, relative_speed, closing_rate, time_of, time_to_go, closest, approach_from, approach, passing_in, cpa_by, cpa_answer}
 use Rattle.root.specs.Hypot.{hypot}
 use Rattle.motion_laws.specs.Sound.{AllGood, FiniteCpa}
@@ -76,7 +77,7 @@ module _ (own : Vessel) (floor : Float) (t : Target) (o : FitVessel own) (f : Fi
   abbrev point : Components
   point = closest position relative
 
-  abbrev ahead : Approach
+  abbrev ahead : Track Cpa
   ahead = Closing (record { distance = record { 0 = hypot point.north point.east }; time_to_go = time_to_go (time_of position relative); bearing = direction_of point })
 
   -- a contact that does not close passes at its range
@@ -110,7 +111,7 @@ module _ (own : Vessel) (floor : Float) (t : Target) (o : FitVessel own) (f : Fi
       closing x true e k = absurd (not_blocked d e)
       closing x false e k = take x e k
 
-      go : (c : Result Approach Refusal) → FiniteCpa c → passed_by floor c ≡ Some d → T (finite d.0)
+      go : (c : Result (Track Cpa) Refusal) → FiniteCpa c → passed_by floor c ≡ Some d → T (finite d.0)
       go (Ok (Closing cpa)) k e = closing cpa.distance (lt cpa.distance.0 floor) e k.0
       go (Ok (Opening range)) k e = take range e k
       go (Ok (Stationary range)) k e = take range e k

@@ -16,15 +16,16 @@ const LARGEST: f64 = 16.0;
 
 pub const TINY: f64 = 7.62939453125e-6;
 
-// One in units, as an f64: 2^58.
-const ONE: f64 = 288230376151711744.0;
+// One in units, as an f64: 2^58. A step of the grid is 32 units.
+const ONE: f64 = 32.0 / GRID;
 
 // Half pi, and half of it, in whole units.
 const HALF_PI: u64 = 452751216129820177;
 
-const QUARTER_PI: u64 = 226375608064910088;
+const QUARTER_PI: u64 = HALF_PI / 2;
 
-// The units in the size of a number of at most 16, cut to a whole number; none for any other.
+// The units in the size of a number of at most 16, cut to a whole number; none for any other. They stay a plain number, here and below, and
+// `n ≤ 2 ^ 62` a clause: `arcsine` takes them on as the units of a sine, and a type of its own would be made here and opened in both.
 pub fn units(x: f64) -> Option<u64>
     ensures { MatchOption result (Sine.in_domain x ≡ false) (λ n. (Sine.in_domain x ≡ true) × (n ≡ Sine.scaled x) × (n ≤ 2 ^ 62)) }
 {
@@ -72,7 +73,7 @@ fn turned(n: u64, more: u64) -> f64
     from_units(back, series::cosine(left))
 }
 
-// The sine of x radians; not a number outside -16 to 16. No `map_or`, as in the cosine: its closure would be a block of these two statements.
+// The sine of x radians; not a number outside -16 to 16. The cosine's `map_or` would here have a closure of two statements.
 pub fn sin(x: f64) -> f64
     ensures { result ≡ Sine.sin x }
 {

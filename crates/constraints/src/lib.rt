@@ -11,7 +11,7 @@ use motion::side::BySide;
 use motion::units::{Angle, RateOfTurn};
 use trials::TrialList;
 
-// A reversal, in degrees.
+// The most that an alteration may be, in degrees: document 01's limit, which has no other figure's name.
 const MAX_ALTERATION: f64 = 180.0;
 
 // The smallest normal f64 and the largest one: a rate of turn is at least the first in size.

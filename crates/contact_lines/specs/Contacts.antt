@@ -9,7 +9,8 @@ use Rattle.std.specs.declared.option.Option.{Option}
 use Rattle.std.specs.declared.result.Result.{Result}
 use Rattle.elementary.specs.declared.error.Refusal.{Refusal}
 use Rattle.motion.specs.declared.units.Direction.{Direction}
-use Rattle.relative_motion.specs.declared.approach.Approach.{Approach}
+use Rattle.relative_motion.specs.declared.approach.Cpa.{Cpa}
+use Rattle.relative_motion.specs.declared.approach.Track.{Track}
 use Rattle.relative_motion.specs.Approach.{cpa_answer}
 use Rattle.risk.specs.Risk.{nearest, risk_of}
 use Rattle.situation.specs.declared.party.Party.{Party}
@@ -21,7 +22,7 @@ use Rattle.sheet_record.specs.declared.Row.{Row}
 use Rattle.sheet_values.specs.Values.{entry_of}
 use Rattle.lines.specs.Lines.{contact_line, refused_line}
 
-abbrev pub line_by : ℕ → CpaPolicy → Result Approach Refusal → Result Ruling Refusal → List ℕ
+abbrev pub line_by : ℕ → CpaPolicy → Result (Track Cpa) Refusal → Result Ruling Refusal → List ℕ
 line_by id policy (Ok a) (Ok r) = contact_line id a (risk_of policy (nearest a)) r
 line_by id policy (Ok a) (Err why) = refused_line why
 line_by id policy (Err why) r = refused_line why

@@ -67,7 +67,7 @@ fn choice_of(own: Vessel, contact: Contact, target: Vessel, wanted: f64) -> Choi
     ensures { result ≡ Spec.choice_of own contact target wanted }
 {
     let aside = grazing(wanted, contact.range.0);
-    let away = contact.bearing.0 + 180.0;
+    let away = contact.bearing.0 + angle::HALF_TURN;
     let velocity = target.velocity();
     let first = along(own, velocity, away - aside, Choice::default());
     along(own, velocity, away + aside, first)

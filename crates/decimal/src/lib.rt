@@ -9,6 +9,7 @@ ghost use Rattle.std.specs.Float.Ieee.Nearest.{closest};
 ghost use Rattle.decimal.specs.Thousandths.{thousandths_of};
 
 use math::{Parts, power_of_two};
+use std::cmp::Ordering;
 
 // 2^53, above which no f64 has a fraction, and its thousandths.
 const LIMIT: f64 = (1u64 << 53) as f64;
@@ -22,13 +23,11 @@ fn nearest(n: u64, d: u64) -> u64
 {
     let q = n / d;
     let twice = n % d * 2;
-    if twice < d {
-        return q;
+    match twice.cmp(&d) {
+        Ordering::Less => q,
+        Ordering::Greater => q + 1,
+        Ordering::Equal => q + q % 2,
     }
-    if twice > d {
-        return q + 1;
-    }
-    q + q % 2
 }
 
 // A quantity above 0 and below 2^53. Its thousandths are digits * 1000 / 2^(1074 - place), and none below the place 1011.

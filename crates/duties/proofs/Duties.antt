@@ -2,6 +2,7 @@
 use mathlib.Core.Path.{◌≡◌, refl, sym, ap, ◌∙◌}
 use Prim.Native.Nat.{ℕ, ◌≤◌, ◌<◌}
 use lib.Dec.{ltb}
+use Rattle.std.specs.Option.{unwrap_or}
 use borrow.Author.Tests.{lt-ltb, le-ltb}
 use Rattle.situation.specs.declared.party.VesselCategory.{VesselCategory}
 use Rattle.situation.specs.declared.party.VesselCategory.TheVariants.{PowerDriven, Sailing, Fishing, ConstrainedByDraught, RestrictedInAbilityToManoeuvre, NotUnderCommand}
@@ -11,7 +12,13 @@ use Rattle.colregs.specs.declared.answer.Responsibility.TheVariants.{GiveWay, St
 use Rattle.colregs.specs.declared.answer.Rule.TheVariants.{Rule12, Rule18}
 use Rattle.colregs.specs.declared.answer.Decision.{Decision}
 use Rattle.situation.specs.Situation.{precedence}
-use Rattle.colregs.specs.Colregs.{keeps_clear, rule12, rule18, by_says, decided, by_geometry, by_rank}
+use Rattle.duties.specs.Says.{said}
+use Rattle.colregs.specs.Colregs.{Says, silent, says, keeps_clear, rule12, rule18, by_says, decided, by_geometry, by_rank}
+
+-- what a rule says, before the rules after it
+first : (text : Says) (rest : Decision) → unwrap_or (said Rule12 text) rest ≡ by_says text Rule12 rest
+first silent rest = refl
+first (says duty) rest = refl
 
 -- of two vessels the one of the lower rank keeps out of the way
 pub rank : (a b : VesselCategory) → keeps_clear a b ≡ ltb (precedence a) (precedence b)
@@ -68,6 +75,6 @@ module _ (e : Encounter) (own target : VesselCategory) (w : Windward) (o t : ℕ
     unfolding decided rule18
     higher lt = rw own_clear rw (le-ltb o t not_lower) rw target_clear rw (lt-ltb t o lt) refl
 
-    pub equal : o ≤ t → by_says (rule12 own target w) Rule12 (decided (by_geometry e)) ≡ decided (by_rank e own target w)
+    pub equal : o ≤ t → unwrap_or (said Rule12 (rule12 own target w)) (decided (by_geometry e)) ≡ decided (by_rank e own target w)
     unfolding decided rule18
-    equal le = rw own_clear rw (le-ltb o t not_lower) rw target_clear rw (le-ltb t o le) refl
+    equal le = rw own_clear rw (le-ltb o t not_lower) rw target_clear rw (le-ltb t o le) (first (rule12 own target w) (decided (by_geometry e)))

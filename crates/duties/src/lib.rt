@@ -3,6 +3,7 @@
 
 ghost use Rattle.std.specs.Prelude.{◌≡◌, [], ◌∷◌};
 ghost use Rattle.colregs.specs.Colregs as Spec;
+ghost use Rattle.duties.specs.Says as Says;
 
 use colregs::answer::{Decision, Encounter, Responsibility, Rule};
 use facts::{Facts, Windward};
@@ -56,17 +57,18 @@ fn by_geometry(e: Encounter) -> Decision
     }
 }
 
-// Rule 12, where both sail; `rest` is what the rules after it say.
-fn by_sails(f: Facts, rest: Decision) -> Decision
-    ensures { result ≡ Spec.by_says (Spec.rule12 f.own f.target f.windward) Rule.Rule12 rest }
+// Rule 12, where both sail.
+fn by_sails(f: Facts) -> Option<Decision>
+    ensures { result ≡ Says.said Rule.Rule12 (Spec.rule12 f.own f.target f.windward) }
 {
     match (f.own, f.target) {
-        (VesselCategory::Sailing { tack: on }, VesselCategory::Sailing { tack: other }) =>
+        (VesselCategory::Sailing { tack: on }, VesselCategory::Sailing { tack: other }) => Some(
             Decision {
                 responsibility: by_tacks(on, other, f.windward),
                 rule: Rule::Rule12,
             },
-        _ => rest,
+        ),
+        _ => None,
     }
 }
 
@@ -78,7 +80,7 @@ fn by_rank(e: Encounter, f: Facts) -> Decision
     let responsibility = match f.own.precedence().cmp(&f.target.precedence()) {
         Ordering::Less => Responsibility::GiveWay,
         Ordering::Greater => Responsibility::StandOn,
-        Ordering::Equal => return by_sails(f, by_geometry(e)),
+        Ordering::Equal => return by_sails(f).unwrap_or(by_geometry(e)),
     };
     Decision {
         responsibility,

@@ -19,12 +19,13 @@ use time::Duration;
 use words::{pattern, refused, word};
 
 // ---- the words of what may be missing
-// By a `match`, as in `verdict_words`: of a closure that makes an array `map_or` says nothing of what it returns (tried).
+// By a `match`: of a closure that makes an array `map_or` says nothing of what it returns (tried), and `p.map_or([0; 5], found)` wants `found`, a
+// second function with a contract of its own, for each of the two.
 fn nearest(p: Option<Cpa>) -> [u64; 5]
     ensures { result ≡ Spec.nearest p }
 {
     match p {
-        None => [0, 0, 0, 0, 0],
+        None => [0; 5],
         Some(cpa) => {
             let time = cpa.time_to_go;
             let nanos = time.nanos as u64;
@@ -43,7 +44,7 @@ fn crossing(p: Option<Distance>) -> [u64; 2]
     ensures { result ≡ Spec.crossing p }
 {
     match p {
-        None => [0, 0],
+        None => [0; 2],
         Some(d) => [1, pattern(d.0)],
     }
 }
@@ -78,28 +79,18 @@ fn assess_words(answer: Result<CollisionAssessment, Refusal>) -> [u64; 14]
     answer.map_or_else(refused, assessed)
 }
 
-fn verdict_words(v: Result<(), Refusal>) -> [u64; 14]
-    ensures { result ≡ Spec.verdict_words v }
-{
-    match v {
-        Ok(()) => [0; 14],
-        Err(why) => refused(why),
-    }
-}
-
-// A policy that is refused comes after own craft, the contact and the target, as document 01 has it.
-fn words_by(
+// A policy that is refused comes after own craft, the contact and the target, as document 01 has it: these are checked before it, and by `assess`
+// again.
+fn assess_by(
     own: Vessel,
     contact: Contact,
     target: Vessel,
-    p: Result<CpaPolicy, Refusal>,
-) -> [u64; 14]
-    ensures { result ≡ Spec.words_by own contact target p }
+    policy: Result<CpaPolicy, Refusal>,
+) -> Result<CollisionAssessment, Refusal>
+    ensures { Spec.assess_words result ≡ Spec.words_by own contact target policy }
 {
-    match p {
-        Ok(policy) => assess_words(assessment::assess::assess(own, contact, target, policy)),
-        Err(why) => verdict_words(arguments::check_encounter(own, contact, target).and(Err(why))),
-    }
+    arguments::check_encounter(own, contact, target)?;
+    assessment::assess::assess(own, contact, target, policy?)
 }
 
 #[unsafe(no_mangle)]
@@ -118,11 +109,11 @@ pub extern "C" fn avoidance_assess(
     ensures { result ≡ Spec.word (Spec.words_by (Spec.vessel oc os) (Spec.contact bearing range) (Spec.vessel tc ts) (Policy.policy_answer (Spec.distance limit) (Spec.elapsed secs nanos))) part }
 {
     let latest = Duration { secs, nanos };
-    let words = words_by(
+    let answer = assess_by(
         words::vessel(oc, os),
         words::contact(bearing, range),
         words::vessel(tc, ts),
         CpaPolicy::new(Distance(limit), latest),
     );
-    word(&words, part)
+    word(&assess_words(answer), part)
 }

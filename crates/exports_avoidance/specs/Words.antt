@@ -1,5 +1,5 @@
 -- Answers of avoidance as words, and its arguments from codes and floats.
-use Rattle.std.specs.Prelude.{true, false, List, [], ◌∷◌, map, ℕ, ◌/◌, ◌%◌, Float, None, Some, Err, Ok}
+use Rattle.std.specs.Prelude.{List, [], ◌∷◌, map, ℕ, ◌/◌, ◌%◌, Float, None, Some, Err, Ok}
 use Rattle.elementary.specs.declared.error.Refusal.{Refusal}
 use Rattle.choice.specs.declared.Chosen.{Chosen}
 use Rattle.constraints.specs.declared.ManoeuvreConstraints.{ManoeuvreConstraints}
@@ -17,6 +17,7 @@ use Rattle.rulings.specs.Ruled.{ruled_answer}
 use Rattle.codes.specs.Codes as Codes
 use Rattle.words.specs.Words.{pattern, refused}
 use Rattle.words.specs.Words as Words
+use Rattle.avoidance_codes.specs.declared.Layout.{Layout}
 pub use Rattle.avoidance_words.specs.Words.{side_word, limiting_word, turned}
 pub use Rattle.avoidance_codes.specs.Codes.{with_rate, at}
 unfoldable pub use Rattle.avoidance_codes.specs.Codes.{permitted_sides, constraints_of, entry_at, place_of, first_of, entries}
@@ -47,7 +48,7 @@ avoid_with (Err why) oc os bearing range tc ts desired = refused 9 why
 
 abbrev pub search_of : ℕ → ℕ → List Float → Option Chosen
 search_of sides count floats =
-    smallest (Words.vessel (at floats 0) (at floats 1)) (floor_of (record { 0 = at floats 2 })) (map moving (map target_of (entries false floats count)))
+    smallest (Words.vessel (at floats 0) (at floats 1)) (floor_of (record { 0 = at floats 2 })) (map moving (map target_of (entries Layout.Search floats count)))
     (record { starboard = permits_starboard (permitted_sides sides); port = permits_port (permitted_sides sides) }) (at floats 3) (at floats 4)
 
 abbrev pub ruled_constraints : ℕ → List Float → Result ManoeuvreConstraints Refusal
@@ -55,5 +56,5 @@ ruled_constraints codes floats = constraints_of 0 (at floats 5) (at floats 6) (c
 
 abbrev pub ruled_with : Result ManoeuvreConstraints Refusal → ℕ → ℕ → List Float → List ℕ
 ruled_with (Ok c) codes count floats =
-    ruled_words (ruled_answer (Codes.party (codes % 8) (codes / 16 % 2) (at floats 0) (at floats 1) (at floats 2)) count (entries true floats count) (Codes.visibility_of (codes / 8 % 2)) (Codes.perhaps (codes / 32 % 2) (at floats 3)) (record { 0 = at floats 4 }) c)
+    ruled_words (ruled_answer (Codes.party (codes % 8) (codes / 16 % 2) (at floats 0) (at floats 1) (at floats 2)) count (entries Layout.Ruled floats count) (Codes.visibility_of (codes / 8 % 2)) (Codes.perhaps (codes / 32 % 2) (at floats 3)) (record { 0 = at floats 4 }) c)
 ruled_with (Err why) codes count floats = refused 9 why

@@ -4,11 +4,11 @@
 // the limiting contact's place and one, 0 for nobody. Floats are bit patterns.
 #![tactic(auto)]
 
-ghost use Rattle.std.specs.Prelude.{◌≡◌, get_or, true};
+ghost use Rattle.std.specs.Prelude.{◌≡◌, get_or};
 ghost use Rattle.rulings.specs.Ruled as Rulings;
 ghost use Rattle.exports_avoidance.specs.Words as Spec;
 
-use avoidance_codes::{constraints_of, permitted_sides, traffic_of};
+use avoidance_codes::{Layout, constraints_of, permitted_sides, traffic_of};
 use avoidance_words::{limiting_word, side_word, turned};
 use choice::{Chosen, Search, Sides};
 use constraints::ManoeuvreConstraints;
@@ -60,12 +60,12 @@ fn ruled_words(answer: Result<RuledManoeuvre, Refusal>) -> [u64; 9]
 }
 
 // Whether a trial was found, its side and magnitude, the passing distance and the limiting contact. A `match`: of a closure that makes an array
-// `map_or` says nothing of what it returns.
+// `map_or` says nothing of what it returns (tried), and `choice.map_or([0; 9], found)` wants `found`, a second function with a contract of its own.
 fn search_words(choice: Option<Chosen>) -> [u64; 9]
     ensures { result ≡ Spec.search_words choice }
 {
     match choice {
-        None => [0, 0, 0, 0, 0, 0, 0, 0, 0],
+        None => [0; 9],
         Some(c) => {
             [
                 1,
@@ -90,10 +90,15 @@ fn ruled_on(
     desired: Distance,
     c: ManoeuvreConstraints,
 ) -> Result<RuledManoeuvre, Refusal>
-    ensures { result ≡ Rulings.ruled_answer around.own count (Spec.entries true floats.now count) around.visibility around.wind_from desired c }
+    ensures { result ≡ Rulings.ruled_answer around.own count (Spec.entries Layout.Ruled floats.now count) around.visibility around.wind_from desired c }
 {
     traffic::check_count(count)?;
-    ruled::ruled_search(around, &traffic_of(true, count, floats), desired, c)
+    ruled::ruled_search(
+        around,
+        &traffic_of(Layout::Ruled, count, floats),
+        desired,
+        c,
+    )
 }
 
 // ---- the exports
@@ -132,7 +137,7 @@ pub extern "C" fn avoidance_avoid(
 pub extern "C" fn avoidance_search(part: u32, sides: u32, count: usize, floats: &[f64]) -> u64
     ensures { result ≡ get_or (Spec.search_words (Spec.search_of sides count floats.now)) part 0 }
 {
-    let scene = traffic::scene_of(&traffic_of(false, count, floats));
+    let scene = traffic::scene_of(&traffic_of(Layout::Search, count, floats));
     let own = words::vessel(codes::float_at(floats, 0), codes::float_at(floats, 1));
     let search = Search::new(own, &scene, Distance(codes::float_at(floats, 2)));
     let found = search.smallest(

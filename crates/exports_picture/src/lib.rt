@@ -33,7 +33,8 @@ fn add(p: &mut CollisionPicture, place: usize, answer: Result<CollisionAssessmen
     }
 }
 
-// Own course and speed, then bearing, range, course and speed of each contact.
+// Own course and speed, then bearing, range, course and speed of each contact. By places, and not as a chunk of the list: what the list lacks
+// reads as 0, as in `avoidance_codes::entry_at`.
 #[tactic(auto, unfolding(crate::specs::Words::assess_at))]
 fn assess_at(
     floats: &[f64],
@@ -73,8 +74,8 @@ fn picture_of(
     p
 }
 
-// The risk of a rank. A table, and no `From` as of `Visibility`, whose code a sheet has too: that a code above 3 is the highest is the C
-// interface's alone.
+// The risk of a rank. A table, and no `From` as of `Visibility`, whose code a sheet has too: an impl would stand with the type, in `risk`, and
+// that a code above 3 is the highest is the C interface's alone.
 #[tactic(auto, unfolding(crate::specs::Words::risk_of))]
 fn risk_of(code: u32) -> CollisionRisk
     ensures { result ≡ Spec.risk_of code }

@@ -43,7 +43,7 @@ fn relative_of(contact: Contact, heading: Direction) -> f64
 fn aspect_of(contact: Contact, heading: Direction) -> f64
     ensures { result ≡ Spec.aspect_of contact heading }
 {
-    angle::wrap180(contact.bearing.0 + 180.0 - heading.0)
+    angle::wrap180(contact.bearing.0 + angle::HALF_TURN - heading.0)
 }
 
 // How fast the range grows along a line of sight.
@@ -73,7 +73,7 @@ fn windward_of(contact: Contact, wind: Option<Direction>) -> Windward
     ensures { result ≡ Spec.windward_of contact wind }
 {
     wind.map_or(Windward::Unknown, |from| {
-        let downwind = angle::wrap180(contact.bearing.0 - (from.0 + 180.0));
+        let downwind = angle::wrap180(contact.bearing.0 - (from.0 + angle::HALF_TURN));
         if math::abs(downwind) < 90.0 {
             Windward::Own
         } else {

@@ -3,26 +3,27 @@ use Rattle.std.specs.Prelude.{List, ℕ}
 use Rattle.text.specs.Text.{bytes}
 use Rattle.text.specs.Decimal.{decimal_of}
 use Rattle.motion.specs.declared.units.Distance.{Distance}
-use Rattle.relative_motion.specs.declared.approach.Approach.{Approach}
+use Rattle.relative_motion.specs.declared.approach.Cpa.{Cpa}
+use Rattle.relative_motion.specs.declared.approach.Track.{Track}
 use Rattle.risk.specs.declared.CollisionRisk.{CollisionRisk}
 use Rattle.risk.specs.declared.CollisionRisk.TheVariants as Risk
 pub use Rattle.number_fields.specs.Fields.{quantity_field}
 
-abbrev pub approach_field : Approach → List ℕ
-approach_field (Approach.Closing cpa) = bytes "CLOSING"
-approach_field (Approach.Opening range) = bytes "OPENING"
-approach_field (Approach.Stationary range) = bytes "STATIONARY"
+abbrev pub approach_field : Track Cpa → List ℕ
+approach_field (Track.Closing cpa) = bytes "CLOSING"
+approach_field (Track.Opening range) = bytes "OPENING"
+approach_field (Track.Stationary range) = bytes "STATIONARY"
 
-abbrev pub distance_of : Approach → Distance
-distance_of (Approach.Closing cpa) = cpa.distance
-distance_of (Approach.Opening range) = range
-distance_of (Approach.Stationary range) = range
+abbrev pub distance_of : Track Cpa → Distance
+distance_of (Track.Closing cpa) = cpa.distance
+distance_of (Track.Opening range) = range
+distance_of (Track.Stationary range) = range
 
 -- the time is whole seconds and nanoseconds
-abbrev pub seconds_field : Approach → List ℕ
-seconds_field (Approach.Closing cpa) = decimal_of cpa.time_to_go.secs
-seconds_field (Approach.Opening range) = bytes "-"
-seconds_field (Approach.Stationary range) = bytes "-"
+abbrev pub seconds_field : Track Cpa → List ℕ
+seconds_field (Track.Closing cpa) = decimal_of cpa.time_to_go.secs
+seconds_field (Track.Opening range) = bytes "-"
+seconds_field (Track.Stationary range) = bytes "-"
 
 abbrev pub risk_field : CollisionRisk → List ℕ
 risk_field Risk.Opening = bytes "OPENING"

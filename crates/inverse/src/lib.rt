@@ -19,7 +19,7 @@ use math::Parts;
 const STEP: f64 = 1.7763568394002505e-15;
 
 // Half pi in steps.
-const HALF_PI: u64 = 884279719003555;
+const HALF_PI: u64 = arcs::HALF_PI / 8;
 
 // 2^54, which makes any f64 but 0 that is below the normal ones a normal one.
 const RAISE: f64 = 18014398509481984.0;
@@ -60,27 +60,37 @@ impl Magnitude {
     }
 }
 
-// n without its last digits, `places` of them.
+// n without its last digits, `places` of them. `unbounded_shr` takes its places as a u32: for a number that is no u32 this would
+// need an answer of its own.
 fn cut(n: u64, places: u64) -> u64
     ensures { result ≡ n / 2 ^ places }
 {
     if places < 64 { n >> places } else { 0 }
 }
 
-// The arctangent of v / u in steps, for a normal u that is not smaller than v.
-fn normal_octant(u: Magnitude, v: Magnitude) -> u64
+// An angle of the first octant.
+#[derive(Clone, Copy)]
+struct Steps {
+    count: u64,
+    ghost few: { count ≤ last_step },
+}
+
+// The arctangent of v / u, for a normal u that is not smaller than v.
+fn normal_octant(u: Magnitude, v: Magnitude) -> Steps
     requires { (2 ^ 52 ≤ units_of u.value) × (units_of v.value ≤ units_of u.value) }
-    ensures { (result ≡ Atan2.octant (units_of u.value) (units_of v.value)) × (result ≤ last_step) }
+    ensures { result.count ≡ Atan2.octant (units_of u.value) (units_of v.value) }
 {
     let p = u.taken_apart();
     let q = v.taken_apart();
-    arcs::arctangent(32 * p.digits, cut(32 * q.digits, p.place - q.place))
+    Steps {
+        count: arcs::arctangent(32 * p.digits, cut(32 * q.digits, p.place - q.place)),
+    }
 }
 
 // The same for any u that is not 0.
-fn octant(u: Magnitude, v: Magnitude) -> u64
+fn octant(u: Magnitude, v: Magnitude) -> Steps
     requires { (0 < units_of u.value) × (units_of v.value ≤ units_of u.value) }
-    ensures { (result ≡ Atan2.octant (units_of u.value) (units_of v.value)) × (result ≤ last_step) }
+    ensures { result.count ≡ Atan2.octant (units_of u.value) (units_of v.value) }
 {
     if u.value < f64::MIN_POSITIVE {
         return normal_octant(u.raised(), v.raised());
@@ -90,20 +100,20 @@ fn octant(u: Magnitude, v: Magnitude) -> u64
 
 // An octant's angle in the half plane: `steep` where y is the larger, `left` where x is negative. Half pi is cut, so that one
 // step more keeps what is left of it on that side.
-fn placed(steep: bool, left: bool, t: u64) -> u64
-    requires { t ≤ last_step }
-    ensures { (result ≡ Arctangent.placed steep left t) × (result < 2 ^ 53) }
+fn placed(steep: bool, left: bool, t: Steps) -> u64
+    ensures { (result ≡ Arctangent.placed steep left t.count) × (result < 2 ^ 53) }
 {
+    let Steps { count } = t;
     if steep {
         if left {
-            return HALF_PI + t + 1;
+            return HALF_PI + count + 1;
         }
-        return HALF_PI - t;
+        return HALF_PI - count;
     }
     if left {
-        return 2 * HALF_PI - t;
+        return 2 * HALF_PI - count;
     }
-    t
+    count
 }
 
 // The angle of the point (a, b), or of (-a, b) where `left` is true, in steps.

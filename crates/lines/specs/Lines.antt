@@ -8,7 +8,8 @@ use Rattle.fields.specs.Fields.{quantity_field, approach_field, distance_of, sec
 use Rattle.ruling_fields.specs.Fields.{encounter_field, responsibility_field}
 use Rattle.elementary.specs.declared.error.Refusal.{Refusal}
 use Rattle.elementary.specs.Refusal.{number_of}
-use Rattle.relative_motion.specs.declared.approach.Approach.{Approach}
+use Rattle.relative_motion.specs.declared.approach.Cpa.{Cpa}
+use Rattle.relative_motion.specs.declared.approach.Track.{Track}
 use Rattle.risk.specs.declared.CollisionRisk.{CollisionRisk}
 use Rattle.colregs.specs.declared.answer.Ruling.{Ruling}
 use Rattle.colregs.specs.Ruling.{rule_number}
@@ -16,7 +17,7 @@ use Rattle.rulings.specs.declared.RuledManoeuvre.{RuledManoeuvre}
 pub use Rattle.turn_fields.specs.Fields.{side_field, passing_field, limiting_field}
 
 -- 'id, approach, CPA (range if OPENING or STATIONARY), whole seconds to CPA rounded down (`-` if none), risk, encounter, responsibility, rule'
-unfoldable pub contact_line : ℕ → Approach → CollisionRisk → Ruling → List ℕ
+unfoldable pub contact_line : ℕ → Track Cpa → CollisionRisk → Ruling → List ℕ
 contact_line id approach risk ruling =
     line
     (bytes "CONTACT"

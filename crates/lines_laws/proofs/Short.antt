@@ -14,7 +14,8 @@ use Rattle.ruling_fields.specs.Fields.{encounter_field, responsibility_field}
 use Rattle.elementary.specs.declared.error.Refusal.{Refusal}
 use Rattle.elementary.specs.Refusal.{number_of}
 use Rattle.motion.specs.declared.units.Distance.{Distance}
-use Rattle.relative_motion.specs.declared.approach.Approach.{Approach}
+use Rattle.relative_motion.specs.declared.approach.Cpa.{Cpa}
+use Rattle.relative_motion.specs.declared.approach.Track.{Track}
 use Rattle.risk.specs.declared.CollisionRisk.{CollisionRisk}
 use Rattle.risk.specs.declared.CollisionRisk.TheVariants as Risk
 use Rattle.colregs.specs.declared.answer.Ruling.{Ruling}
@@ -30,17 +31,17 @@ use Rattle.lines.specs.Lines.{contact_line, side_field, passing_field, limiting_
 quantity_short : (x : Float) → length (quantity_field x) ≤ 24
 quantity_short x = decimals_short (thousandths_of x)
 
-approach_short : (a : Approach) → length (approach_field a) ≤ 10
+approach_short : (a : Track Cpa) → length (approach_field a) ≤ 10
 unfolding bytes
-approach_short (Approach.Closing cpa) = lit≤ tt
-approach_short (Approach.Opening range) = lit≤ tt
-approach_short (Approach.Stationary range) = lit≤ tt
+approach_short (Track.Closing cpa) = lit≤ tt
+approach_short (Track.Opening range) = lit≤ tt
+approach_short (Track.Stationary range) = lit≤ tt
 
-seconds_short : (a : Approach) → length (seconds_field a) ≤ 20
+seconds_short : (a : Track Cpa) → length (seconds_field a) ≤ 20
 unfolding bytes
-seconds_short (Approach.Closing cpa) = decimal_short cpa.time_to_go.secs
-seconds_short (Approach.Opening range) = lit≤ tt
-seconds_short (Approach.Stationary range) = lit≤ tt
+seconds_short (Track.Closing cpa) = decimal_short cpa.time_to_go.secs
+seconds_short (Track.Opening range) = lit≤ tt
+seconds_short (Track.Stationary range) = lit≤ tt
 
 risk_short : (k : CollisionRisk) → length (risk_field k) ≤ 10
 unfolding bytes
@@ -74,7 +75,7 @@ rule_short Rule.Rule17 = lit≤ tt
 rule_short Rule.Rule18 = lit≤ tt
 rule_short Rule.Rule19 = lit≤ tt
 
-pub contact_short : (id : ℕ) (a : Approach) (k : CollisionRisk) (g : Ruling) → length (contact_line id a k g) ≤ 129
+pub contact_short : (id : ℕ) (a : Track Cpa) (k : CollisionRisk) (g : Ruling) → length (contact_line id a k g) ≤ 129
 unfolding contact_line bytes
 contact_short id a k g = simp length-append (omega (arith, decimal_short id, approach_short a, quantity_short (distance_of a).0, seconds_short a, risk_short k, encounter_short g.encounter, responsibility_short g.responsibility, rule_short g.rule))
 

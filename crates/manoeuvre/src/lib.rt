@@ -9,7 +9,8 @@ use motion::side::Side;
 use motion::units::{Angle, Direction, Distance, RateOfTurn};
 use time::Duration;
 
-// The alteration is positive to starboard.
+// The alteration is positive to starboard. Apart from `rulings::RuledManoeuvre`: this is the Rust's type, whose one signed alteration loses the
+// side of a turn of 0.
 #[derive(Clone, Copy)]
 pub struct AvoidanceManoeuvre {
     course: Direction,

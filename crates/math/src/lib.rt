@@ -103,7 +103,8 @@ pub fn count_to_f64(count: usize) -> f64
     std::num::nearest_usize_to_f64(count)
 }
 
-// 2^k, and 0 where that is no u64.
+// 2^k, and 0 where that is no u64. `unbounded_shl` takes its k as a u32: for a k that is no u32 this would need an answer
+// of its own.
 pub fn power_of_two(k: u64) -> u64
     ensures power { k < 64 → result ≡ 2 ^ k }
     ensures none { 64 ≤ k → result ≡ 0 }

@@ -1,5 +1,6 @@
 -- Velocities and offsets (relative_motion.rs, `Vessel::velocity`, `Vessel::from_velocity`, `Contact::offset`, `relative_velocity`; 01, the leaf helpers: 'a direction's `radians` is `to_radians` of its degrees, its `components` are speed × cosine and speed × sine').
 use Rattle.std.specs.Prelude.{Float}
+use Rattle.std.specs.Float.Ieee.{neg}
 use Rattle.laws.specs.Ops.{◌⊕◌, ◌⊖◌, ◌⊗◌, ◌⊘◌}
 use Rattle.math.specs.Convert.{to_radians, to_degrees}
 use Rattle.angle.specs.Fold.{whole_fold}
@@ -27,6 +28,9 @@ sum a b = record { north = a.north ⊕ b.north; east = a.east ⊕ b.east }
 
 unfoldable pub difference : Components → Components → Components
 difference a b = record { north = a.north ⊖ b.north; east = a.east ⊖ b.east }
+
+abbrev pub opposite : Components → Components
+opposite c = record { north = neg c.north; east = neg c.east }
 
 abbrev pub times : Components → Float → Components
 times c k = record { north = c.north ⊗ k; east = c.east ⊗ k }

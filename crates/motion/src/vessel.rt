@@ -3,7 +3,7 @@ ghost use Rattle.std.specs.Prelude.{◌≡◌};
 ghost use Rattle.motion.specs.Vessel as Spec;
 
 use crate::units::{Direction, Distance, Speed};
-use std::ops::{Add, Div, Mul, Sub};
+use std::ops::{Add, Div, Mul, Neg, Sub};
 
 // Course and speed of a vessel.
 #[derive(Clone, Copy, Default)]
@@ -72,6 +72,19 @@ impl Sub for Components {
         Components {
             north: self.north - rhs.north,
             east: self.east - rhs.east,
+        }
+    }
+}
+
+impl Neg for Components {
+    type Output = Components;
+
+    ghost neg_gives = { λ c r. r ≡ Spec.opposite c };
+
+    fn neg(self) -> Components {
+        Components {
+            north: -self.north,
+            east: -self.east,
         }
     }
 }

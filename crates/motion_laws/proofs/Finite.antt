@@ -26,7 +26,8 @@ use Rattle.time.specs.Clock.{seconds_per_hour, clock, nanos_in, from_seconds, fr
 use Rattle.time.specs.Clock as Clock
 use Rattle.std.specs.declared.result.Result.{Result}
 use Rattle.elementary.specs.declared.error.Refusal.{Refusal}
-use Rattle.relative_motion.specs.declared.approach.Approach.{Approach}
+use Rattle.relative_motion.specs.declared.approach.Cpa.{Cpa}
+use Rattle.relative_motion.specs.declared.approach.Track.{Track}
 use Rattle.root.specs.Hypot.{hypot}
 use Rattle.root.specs.Hypot as Hypot
 use Rattle.root.proofs.HypotSize.{in-hypot-domain, hypotenuse, hypot-small, hypot_sides}
@@ -43,7 +44,7 @@ use Rattle.motion.specs.declared.units.Distance.{Distance}
 use Rattle.motion.specs.declared.vessel.Vessel.{Vessel}
 use Rattle.motion.specs.declared.vessel.Contact.{Contact}
 use Rattle.motion.specs.declared.vessel.Components.{Components}
-use Rattle.relative_motion.specs.declared.approach.Approach.TheVariants.{Closing, Opening, Stationary}
+use Rattle.relative_motion.specs.declared.approach.Track.TheVariants.{Closing, Opening, Stationary}
 use Rattle.arguments.specs.Check.{verdict, vessel_checks, contact_checks, encounter_checks}
 use Rattle.motion.specs.Vessel.{unit, direction_of, offset, relative_velocity}
 use Rattle.motion_laws.specs.Sound.{HeldVessel, HeldContact, AllGood, FiniteApproach, FiniteCpa, FinitePass, FiniteBearing, FiniteBow, Way, CpaWay}
@@ -308,7 +309,7 @@ module _ (own : Vessel) (contact : Contact) (target : Vessel) (ho : HeldVessel o
   unfolding passing_answer
   passing_finite = go (cpa_answer own contact target) cpa_finite
     where
-      go : (a : Result Approach Refusal) → FiniteCpa a → FinitePass (passing_of_answer a)
+      go : (a : Result (Track Cpa) Refusal) → FiniteCpa a → FinitePass (passing_of_answer a)
       go (Ok (Closing cpa)) f = f.0
       go (Ok (Opening range)) f = f
       go (Ok (Stationary range)) f = f

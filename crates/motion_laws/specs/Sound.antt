@@ -14,13 +14,13 @@ use Rattle.elementary.specs.declared.error.Refusal.{Refusal}
 use Rattle.motion.specs.declared.units.Direction.{Direction}
 use Rattle.motion.specs.declared.units.Distance.{Distance}
 use Rattle.motion.specs.declared.units.RelativeBearing.{RelativeBearing}
-use Rattle.relative_motion.specs.declared.approach.Pass.{Pass}
+use Rattle.relative_motion.specs.declared.approach.Cpa.{Cpa}
+use Rattle.relative_motion.specs.declared.approach.Track.{Track}
 use Rattle.root.specs.Hypot as Hypot
 use Rattle.circular.specs.Sine as Sine
 use Rattle.motion.specs.declared.vessel.Vessel.{Vessel}
 use Rattle.motion.specs.declared.vessel.Contact.{Contact}
 use Rattle.motion.specs.declared.vessel.Components.{Components}
-use Rattle.relative_motion.specs.declared.approach.Approach.{Approach}
 use Rattle.plot.specs.declared.TargetSolution.{TargetSolution}
 use Rattle.arguments.specs.Check.{zero, Check}
 pub use Rattle.motion.specs.Held.{HeldVessel, HeldContact}
@@ -33,19 +33,19 @@ AllGood [] = Unit {0}
 AllGood (c ∷ cs) = T c.good × AllGood cs
 
 -- ---- the figures of an answer
-abbrev pub FiniteApproach : Approach → Type 0
-FiniteApproach (Approach.Closing cpa) = T (finite cpa.distance.0) × IsDirection cpa.bearing.0
-FiniteApproach (Approach.Opening range) = T (finite range.0)
-FiniteApproach (Approach.Stationary range) = T (finite range.0)
+abbrev pub FiniteApproach : Track Cpa → Type 0
+FiniteApproach (Track.Closing cpa) = T (finite cpa.distance.0) × IsDirection cpa.bearing.0
+FiniteApproach (Track.Opening range) = T (finite range.0)
+FiniteApproach (Track.Stationary range) = T (finite range.0)
 
-abbrev pub FiniteCpa : Result Approach Refusal → Type 0
+abbrev pub FiniteCpa : Result (Track Cpa) Refusal → Type 0
 FiniteCpa (Ok a) = FiniteApproach a
 FiniteCpa (Err why) = Unit {0}
 
-abbrev pub FinitePass : Result Pass Refusal → Type 0
-FinitePass (Ok (Pass.Closing d)) = T (finite d.0)
-FinitePass (Ok (Pass.Opening d)) = T (finite d.0)
-FinitePass (Ok (Pass.Stationary d)) = T (finite d.0)
+abbrev pub FinitePass : Result (Track Distance) Refusal → Type 0
+FinitePass (Ok (Track.Closing d)) = T (finite d.0)
+FinitePass (Ok (Track.Opening d)) = T (finite d.0)
+FinitePass (Ok (Track.Stationary d)) = T (finite d.0)
 FinitePass (Err why) = Unit {0}
 
 abbrev pub FiniteBearing : Result RelativeBearing Refusal → Type 0

@@ -2,8 +2,7 @@
 use Rattle.std.specs.Prelude.{List, [], ◌∷◌, ℕ, Float, Err, Ok}
 use Rattle.motion.specs.declared.units.Distance.{Distance}
 use Rattle.relative_motion.specs.declared.approach.Cpa.{Cpa}
-use Rattle.relative_motion.specs.declared.approach.Approach.{Approach}
-use Rattle.relative_motion.specs.declared.approach.Pass.{Pass}
+use Rattle.relative_motion.specs.declared.approach.Track.{Track}
 use Rattle.std.specs.declared.result.Result.{Result}
 use Rattle.elementary.specs.declared.error.Refusal.{Refusal}
 use Rattle.motion.specs.declared.units.RelativeBearing.{RelativeBearing}
@@ -15,21 +14,21 @@ closing cpa = 0 ∷ 0 ∷ pattern cpa.distance.0 ∷ pattern cpa.bearing.0 ∷ c
 abbrev pub passed : ℕ → Distance → List ℕ
 passed kind distance = 0 ∷ kind ∷ pattern distance.0 ∷ 0 ∷ 0 ∷ 0 ∷ []
 
-abbrev pub approach_words : Approach → List ℕ
-approach_words (Approach.Closing cpa) = closing cpa
-approach_words (Approach.Opening range) = passed 1 range
-approach_words (Approach.Stationary range) = passed 2 range
+abbrev pub approach_words : Track Cpa → List ℕ
+approach_words (Track.Closing cpa) = closing cpa
+approach_words (Track.Opening range) = passed 1 range
+approach_words (Track.Stationary range) = passed 2 range
 
-abbrev pub cpa_words : Result Approach Refusal → List ℕ
+abbrev pub cpa_words : Result (Track Cpa) Refusal → List ℕ
 cpa_words (Ok a) = approach_words a
 cpa_words (Err why) = refused 6 why
 
-abbrev pub pass_words : Pass → List ℕ
-pass_words (Pass.Closing d) = passed 0 d
-pass_words (Pass.Opening d) = passed 1 d
-pass_words (Pass.Stationary d) = passed 2 d
+abbrev pub pass_words : Track Distance → List ℕ
+pass_words (Track.Closing d) = passed 0 d
+pass_words (Track.Opening d) = passed 1 d
+pass_words (Track.Stationary d) = passed 2 d
 
-abbrev pub passing_words : Result Pass Refusal → List ℕ
+abbrev pub passing_words : Result (Track Distance) Refusal → List ℕ
 passing_words (Ok p) = pass_words p
 passing_words (Err why) = refused 6 why
 

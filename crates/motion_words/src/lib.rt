@@ -52,8 +52,8 @@ fn pass_words(p: Pass) -> [u64; 6]
 {
     match p {
         Pass::Closing(d) => passed(0, d),
-        Pass::Opening(d) => passed(1, d),
-        Pass::Stationary(d) => passed(2, d),
+        Pass::Opening { current_range } => passed(1, current_range),
+        Pass::Stationary { range } => passed(2, range),
     }
 }
 

@@ -5,23 +5,23 @@ use Rattle.arguments.specs.Check.{zero}
 use Rattle.motion.specs.declared.vessel.Vessel.{Vessel}
 use Rattle.motion.specs.declared.vessel.Components.{Components}
 use Rattle.motion.specs.Vessel.{velocity, offset, difference}
-use Rattle.relative_motion.specs.declared.approach.Pass.{Pass}
+use Rattle.relative_motion.specs.declared.approach.Cpa.{Cpa}
+use Rattle.relative_motion.specs.declared.approach.Track.{Track}
 use Rattle.std.specs.declared.option.Option.{Option}
 use Rattle.std.specs.declared.result.Result.{Result}
 use Rattle.elementary.specs.declared.error.Refusal.{Refusal}
 use Rattle.motion.specs.declared.units.Distance.{Distance}
-use Rattle.relative_motion.specs.declared.approach.Approach.{Approach}
 use Rattle.relative_motion.specs.Approach.{closing_rate, approach_from, passing_in, cpa_answer}
 use Rattle.passages.specs.declared.Target.{Target}
 use Rattle.passages.specs.declared.Moving.{Moving}
 
 -- a closing contact blocks below the floor; any other passes at its range
-abbrev pub passed : Float → Pass → Option Distance
-passed floor (Pass.Closing d) = cond (lt d.0 floor) None (Some d)
-passed floor (Pass.Opening range) = Some range
-passed floor (Pass.Stationary range) = Some range
+abbrev pub passed : Float → Track Distance → Option Distance
+passed floor (Track.Closing d) = cond (lt d.0 floor) None (Some d)
+passed floor (Track.Opening range) = Some range
+passed floor (Track.Stationary range) = Some range
 
-abbrev pub passed_by : Float → Result Approach Refusal → Option Distance
+abbrev pub passed_by : Float → Result (Track Cpa) Refusal → Option Distance
 passed_by floor (Ok a) = passed floor (passing_in a)
 passed_by floor (Err why) = None
 

@@ -63,7 +63,8 @@ fn passed(pass: Pass, floor: f64) -> Option<Distance>
 {
     match pass {
         Pass::Closing(d) if d.0 < floor => None,
-        Pass::Closing(d) | Pass::Opening(d) | Pass::Stationary(d) => Some(d),
+        Pass::Closing(d) | Pass::Opening { current_range: d } | Pass::Stationary { range: d } =>
+            Some(d),
     }
 }
 

@@ -41,9 +41,7 @@ impl CollisionPicture {
     pub fn push(&mut self, e: TargetAssessment)
         ensures { Spec.targets self.new ≡ Spec.pushed (Spec.targets self.old) e }
     {
-        if !self.targets.is_full() {
-            self.targets.push(e);
-        }
+        let _ = self.targets.try_push(e);
     }
 
     // How many targets are assessed.

@@ -17,8 +17,8 @@ use Rattle.motion.specs.declared.units.Distance.{Distance}
 use Rattle.motion.specs.declared.vessel.Vessel.{Vessel}
 use Rattle.motion.specs.declared.vessel.Contact.{Contact}
 use Rattle.motion.specs.declared.vessel.Components.{Components}
-use Rattle.relative_motion.specs.declared.approach.Approach.{Approach}
-use Rattle.relative_motion.specs.declared.approach.Pass.{Pass}
+use Rattle.relative_motion.specs.declared.approach.Cpa.{Cpa}
+use Rattle.relative_motion.specs.declared.approach.Closest.{Closest}
 use Rattle.relative_motion.specs.declared.approach.Track.{Track}
 use Rattle.arguments.specs.Check.{zero, verdict, vessel_checks, contact_checks, encounter_checks}
 use Rattle.motion.specs.Vessel.{direction_of, offset, relative_velocity}
@@ -51,42 +51,42 @@ unfoldable pub closest : Components → Components → Components
 closest position relative = let time = time_of position relative in record { north = position.north ⊕ relative.north ⊗ time; east = position.east ⊕ relative.east ⊗ time }
 
 -- how the relative track goes; where it closes, when, to what point, and how far that is
-unfoldable pub track : Components → Components → Track
-track position relative =
+unfoldable pub track : Distance → Components → Components → Track Closest
+track range position relative =
     let point = closest position relative in
-    cond (lt (relative_speed relative) stationary_knots) Track.Stationary
-    (cond (le (time_of position relative) zero) Track.Opening
-    (Track.Closing (time_of position relative) point (record { 0 = hypot point.north point.east })))
+    cond (lt (relative_speed relative) stationary_knots) (Track.Stationary range)
+    (cond (le (time_of position relative) zero) (Track.Opening range)
+    (Track.Closing (record { hours = time_of position relative; point = point; distance = record { 0 = hypot point.north point.east } })))
 
-unfoldable pub approach_from : Distance → Components → Components → Approach
+unfoldable pub approach_from : Distance → Components → Components → Track Cpa
 approach_from range position relative =
     let point = closest position relative in
-    cond (lt (relative_speed relative) stationary_knots) (Approach.Stationary range)
-    (cond (le (time_of position relative) zero) (Approach.Opening range)
-    (Approach.Closing (record { distance = record { 0 = hypot point.north point.east }; time_to_go = time_to_go (time_of position relative); bearing = direction_of point })))
+    cond (lt (relative_speed relative) stationary_knots) (Track.Stationary range)
+    (cond (le (time_of position relative) zero) (Track.Opening range)
+    (Track.Closing (record { distance = record { 0 = hypot point.north point.east }; time_to_go = time_to_go (time_of position relative); bearing = direction_of point })))
 
-unfoldable pub approach : Vessel → Contact → Vessel → Approach
+unfoldable pub approach : Vessel → Contact → Vessel → Track Cpa
 approach own contact target = approach_from contact.range (offset contact) (relative_velocity own target)
 
 -- ---- the answers, by the verdict on the arguments
-abbrev pub cpa_by : Result (Unit {0}) Refusal → Approach → Result Approach Refusal
+abbrev pub cpa_by : Result (Unit {0}) Refusal → Track Cpa → Result (Track Cpa) Refusal
 cpa_by (Ok tt) a = Ok a
 cpa_by (Err why) a = Err why
 
-unfoldable pub cpa_answer : Vessel → Contact → Vessel → Result Approach Refusal
+unfoldable pub cpa_answer : Vessel → Contact → Vessel → Result (Track Cpa) Refusal
 cpa_answer own contact target = cpa_by (verdict (encounter_checks own contact target) (Ok tt)) (approach own contact target)
 
 -- an approach without its time and bearing
-abbrev pub passing_in : Approach → Pass
-passing_in (Approach.Closing cpa) = Pass.Closing cpa.distance
-passing_in (Approach.Opening range) = Pass.Opening range
-passing_in (Approach.Stationary range) = Pass.Stationary range
+abbrev pub passing_in : Track Cpa → Track Distance
+passing_in (Track.Closing cpa) = Track.Closing cpa.distance
+passing_in (Track.Opening range) = Track.Opening range
+passing_in (Track.Stationary range) = Track.Stationary range
 
-abbrev pub passing_of_answer : Result Approach Refusal → Result Pass Refusal
+abbrev pub passing_of_answer : Result (Track Cpa) Refusal → Result (Track Distance) Refusal
 passing_of_answer (Ok a) = Ok (passing_in a)
 passing_of_answer (Err why) = Err why
 
-unfoldable pub passing_answer : Vessel → Contact → Vessel → Result Pass Refusal
+unfoldable pub passing_answer : Vessel → Contact → Vessel → Result (Track Distance) Refusal
 passing_answer own contact target = passing_of_answer (cpa_answer own contact target)
 
 abbrev pub bearing_by : Result (Unit {0}) Refusal → Float → Result RelativeBearing Refusal
@@ -97,21 +97,21 @@ unfoldable pub bearing_answer : Vessel → Contact → Result RelativeBearing Re
 bearing_answer own contact = bearing_by (verdict (vessel_checks own ++ contact_checks contact) (Ok tt)) (whole_fold (contact.bearing.0 ⊖ own.course.0))
 
 -- ---- document 01's number of an answer, 0 where it is answered, and its values
-abbrev pub cpa_number : Result Approach Refusal → ℕ
+abbrev pub cpa_number : Result (Track Cpa) Refusal → ℕ
 cpa_number (Ok a) = 0
 cpa_number (Err why) = number_of why
 
 -- 0 closing, 1 opening, 2 stationary
-abbrev pub approach_kind : Approach → ℕ
-approach_kind (Approach.Closing cpa) = 0
-approach_kind (Approach.Opening range) = 1
-approach_kind (Approach.Stationary range) = 2
+abbrev pub approach_kind : Track Cpa → ℕ
+approach_kind (Track.Closing cpa) = 0
+approach_kind (Track.Opening range) = 1
+approach_kind (Track.Stationary range) = 2
 
 -- the CPA, or the range
-abbrev pub approach_distance : Approach → Float
-approach_distance (Approach.Closing cpa) = cpa.distance.0
-approach_distance (Approach.Opening range) = range.0
-approach_distance (Approach.Stationary range) = range.0
+abbrev pub approach_distance : Track Cpa → Float
+approach_distance (Track.Closing cpa) = cpa.distance.0
+approach_distance (Track.Opening range) = range.0
+approach_distance (Track.Stationary range) = range.0
 
 abbrev pub bearing_number : Result RelativeBearing Refusal → ℕ
 bearing_number (Ok b) = 0

@@ -20,21 +20,34 @@ pub struct Cpa {
     pub bearing: Direction,
 }
 
-// How the range goes: it closes to a point ahead, or it opens, or nothing moves.
+// How the range goes: it closes to a point ahead, of which `C` is what is known, or it opens, or nothing moves.
 #[derive(Clone, Copy)]
-pub enum Approach {
-    Closing(Cpa),
+pub enum Track<C> {
+    Closing(C),
     Opening { current_range: Distance },
     Stationary { range: Distance },
 }
 
-// An approach without its time and bearing: the distance of the closest point, or the range now. A type of its own: were it an
-// `Approach` with a parameter for what a closing contact has, the definitions, whose types have no defaults, would all say `Approach Cpa`.
-#[derive(Clone, Copy)]
-pub enum Pass {
-    Closing(Distance),
-    Opening(Distance),
-    Stationary(Distance),
+// A track with the closest point of approach.
+pub type Approach = Track<Cpa>;
+
+// A track with the distance of that point alone.
+pub type Pass = Track<Distance>;
+
+impl<C: Copy> Track<C> {
+    // The same track, with what `f` makes of the point ahead.
+    fn map<D: Copy, F: FnOnce(C) -> D>(self, f: F) -> Track<D>
+        requires { F.IsAlwaysCallable f }
+        ensures closing { (c : C) → self ≡ Track.Closing c → (d : D) × F.post f c d × (result ≡ Track.Closing d) }
+        ensures opening { (r : Distance) → self ≡ Track.Opening r → result ≡ Track.Opening r }
+        ensures stationary { (r : Distance) → self ≡ Track.Stationary r → result ≡ Track.Stationary r }
+    {
+        match self {
+            Track::Closing(point) => Track::Closing(f(point)),
+            Track::Opening { current_range } => Track::Opening { current_range },
+            Track::Stationary { range } => Track::Stationary { range },
+        }
+    }
 }
 
 // A contact as own craft sees it: its range, its offset, and its velocity relative to own craft.
@@ -45,16 +58,12 @@ pub struct Relative {
     pub velocity: Components,
 }
 
-// What both go by: the hours until a contact is closest, where it is then, and how far that is.
+// The point of a contact's track that is closest: the hours until then, where it is, and how far that is.
 #[derive(Clone, Copy)]
-enum Track {
-    Closing {
-        hours: f64,
-        closest: Components,
-        distance: Distance,
-    },
-    Opening,
-    Stationary,
+struct Closest {
+    hours: f64,
+    point: Components,
+    distance: Distance,
 }
 
 // A time of so many hours; the longest one where it is too long, which no accepted argument brings about.
@@ -89,23 +98,25 @@ impl Relative {
 
     // The contact's track.
     #[tactic(auto, unfolding(crate::specs::Approach::track, crate::specs::Approach::relative_speed, crate::specs::Approach::time_of, crate::specs::Approach::closing_rate, crate::specs::Approach::closest))]
-    fn track(self) -> Track
-        ensures { result ≡ Spec.track self.offset self.velocity }
+    fn track(self) -> Track<Closest>
+        ensures { result ≡ Spec.track self.range self.offset self.velocity }
     {
         let relative_speed = self.velocity.size();
         if relative_speed < STATIONARY_KNOTS {
-            return Track::Stationary;
+            return Track::Stationary { range: self.range };
         }
         let hours = -self.range_rate() / (relative_speed * relative_speed);
         if hours <= 0.0 {
-            return Track::Opening;
+            return Track::Opening {
+                current_range: self.range,
+            };
         }
-        let closest = self.offset + self.velocity * hours;
-        Track::Closing {
+        let point = self.offset + self.velocity * hours;
+        Track::Closing(Closest {
             hours,
-            closest,
-            distance: Distance(closest.size()),
-        }
+            point,
+            distance: Distance(point.size()),
+        })
     }
 
     // The contact's approach.
@@ -113,21 +124,11 @@ impl Relative {
     pub fn approach(self) -> Approach
         ensures { result ≡ Spec.approach_from self.range self.offset self.velocity }
     {
-        match self.track() {
-            Track::Closing {
-                hours,
-                closest,
-                distance,
-            } => Approach::Closing(Cpa {
-                distance,
-                time_to_go: time_to_go(hours),
-                bearing: vessel::direction_of(closest),
-            }),
-            Track::Opening => Approach::Opening {
-                current_range: self.range,
-            },
-            Track::Stationary => Approach::Stationary { range: self.range },
-        }
+        self.track().map(|closest| Cpa {
+            distance: closest.distance,
+            time_to_go: time_to_go(closest.hours),
+            bearing: vessel::direction_of(closest.point),
+        })
     }
 
     // The same without time and bearing.
@@ -135,11 +136,7 @@ impl Relative {
     pub fn passing(self) -> Pass
         ensures { result ≡ Spec.passing_in (Spec.approach_from self.range self.offset self.velocity) }
     {
-        match self.track() {
-            Track::Closing { distance, .. } => Pass::Closing(distance),
-            Track::Opening => Pass::Opening(self.range),
-            Track::Stationary => Pass::Stationary(self.range),
-        }
+        self.track().map(|closest| closest.distance)
     }
 }
 

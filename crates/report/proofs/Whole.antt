@@ -13,7 +13,8 @@ use Rattle.colregs.specs.declared.answer.Ruling.{Ruling}
 use Rattle.std.specs.declared.option.Option.{Option}
 use Rattle.std.specs.declared.result.Result.{Result}
 use Rattle.motion.specs.declared.units.Direction.{Direction}
-use Rattle.relative_motion.specs.declared.approach.Approach.{Approach}
+use Rattle.relative_motion.specs.declared.approach.Cpa.{Cpa}
+use Rattle.relative_motion.specs.declared.approach.Track.{Track}
 use Rattle.rulings.specs.declared.RuledManoeuvre.{RuledManoeuvre}
 use Rattle.relative_motion.specs.Approach.{cpa_answer}
 use Rattle.policy.specs.declared.CpaPolicy.{CpaPolicy}
@@ -37,7 +38,7 @@ use Rattle.sheet_words.specs.Word.{words}
 use Rattle.sheet.specs.Sheet.{sheet_verdict}
 use Rattle.report.specs.Report.{id_at, answer_line, answer_on, lines_by, lines_on, policy_on, constraints_on, by_verdict, report}
 
-by_short : (id : ℕ) (p : CpaPolicy) (a : Result Approach Refusal) (r : Result Ruling Refusal) → length (line_by id p a r) ≤ 129
+by_short : (id : ℕ) (p : CpaPolicy) (a : Result (Track Cpa) Refusal) (r : Result Ruling Refusal) → length (line_by id p a r) ≤ 129
 by_short id p (Ok a) (Ok r) = contact_short id a (risk_of p (nearest a)) r
 by_short id p (Ok a) (Err why) = omega (arith, refused_short why)
 by_short id p (Err why) r = omega (arith, refused_short why)

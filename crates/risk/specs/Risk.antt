@@ -10,7 +10,7 @@ use Rattle.motion.specs.declared.units.RateOfTurn.{RateOfTurn}
 use Rattle.motion.specs.declared.vessel.Components.{Components}
 use Rattle.arguments.specs.Check.{zero}
 use Rattle.relative_motion.specs.declared.approach.Cpa.{Cpa}
-use Rattle.relative_motion.specs.declared.approach.Approach.{Approach}
+use Rattle.relative_motion.specs.declared.approach.Track.{Track}
 use Rattle.std.specs.declared.option.Option.{Option}
 use Rattle.std.specs.declared.result.Result.{Result}
 use Rattle.elementary.specs.declared.error.Refusal.{Refusal}
@@ -41,10 +41,10 @@ drift_of range position relative =
     let per_hour = drift_per_hour range position relative in
     record { 0 = cond (finite per_hour) (to_degrees per_hour ⊘ sixty) zero }
 
-abbrev pub nearest : Approach → Option Cpa
-nearest (Approach.Closing cpa) = Some cpa
-nearest (Approach.Opening range) = None
-nearest (Approach.Stationary range) = None
+abbrev pub nearest : Track Cpa → Option Cpa
+nearest (Track.Closing cpa) = Some cpa
+nearest (Track.Opening range) = None
+nearest (Track.Stationary range) = None
 
 abbrev pub ahead_of : Result Distance Refusal → Option Distance
 ahead_of (Ok d) = Some d

@@ -76,14 +76,14 @@ pub fn ahead_of(answer: Result<Distance, Refusal>) -> Option<Distance>
 }
 
 // The risk of a closest approach: outside the limit, inside it but later than the time limit, or inside both.
-#[tactic(auto, using(crate::proofs::Owed::develops, crate::proofs::Owed::endangers, crate::proofs::Owed::passes))]
+#[tactic(auto, unfolding(time::specs::Clock::is_before), using(crate::proofs::Owed::develops, crate::proofs::Owed::endangers, crate::proofs::Owed::passes))]
 pub fn risk_at(policy: CpaPolicy, cpa: Cpa) -> CollisionRisk
     ensures { result ≡ Spec.risk_at policy cpa }
 {
     if cpa.distance.0 > policy.cpa_limit().0 {
         return CollisionRisk::Passing;
     }
-    if policy.tcpa_limit().is_before(cpa.time_to_go) {
+    if policy.tcpa_limit() < cpa.time_to_go {
         return CollisionRisk::Developing;
     }
     CollisionRisk::Dangerous

@@ -164,8 +164,8 @@ impl Trial {
 }
 
 // The square root, rounded to the nearest f64: -0 and plus infinity stay, negative numbers and NaN give NaN.
-// It is not `f64::sqrt`: that is the processor's operation, taken on trust, and the elementary functions rest on sums, products and
-// quotients of floats alone.
+// It is not `f64::sqrt`: that is the processor's operation, taken on trust, and by the project's rule the elementary functions rest on
+// sums, products, quotients and comparisons of floats, and on whole numbers.
 pub fn sqrt(x: f64) -> f64
     ensures { result ≡ sqrtOf x }
 {

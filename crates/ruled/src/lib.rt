@@ -36,8 +36,8 @@ fn check_arguments(
     constraints::check_constraints(c)
 }
 
-// What is said of a trial that was chosen. Apart from `avoid`'s of this name: one function would need one type of answer, and this one has the
-// side, the magnitude and the limiting contact.
+// What is said of a trial that was chosen. Apart from `avoid`'s of this name: `ruled` answers `RuledManoeuvre`, which says why it is a second
+// type, and `avoid` the Rust's.
 fn manoeuvre_of(own: Vessel, c: ManoeuvreConstraints, chosen: Chosen) -> RuledManoeuvre
     ensures { result ≡ Spec.manoeuvre_of own c chosen }
 {

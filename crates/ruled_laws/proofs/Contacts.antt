@@ -15,8 +15,8 @@ use Rattle.motion.specs.declared.units.Distance.{Distance}
 use Rattle.motion.specs.declared.vessel.Vessel.{Vessel}
 use Rattle.motion.specs.Vessel.{offset, relative_velocity}
 use Rattle.relative_motion.specs.declared.approach.Cpa.{Cpa}
-use Rattle.relative_motion.specs.declared.approach.Approach.{Approach}
-use Rattle.relative_motion.specs.declared.approach.Approach.TheVariants as Approach
+use Rattle.relative_motion.specs.declared.approach.Track.{Track}
+use Rattle.relative_motion.specs.declared.approach.Track.TheVariants as Track
 use Rattle.std.specs.declared.option.Option.{Option}
 use Rattle.std.specs.declared.result.Result.{Result}
 use Rattle.elementary.specs.declared.error.Refusal.{Refusal}
@@ -36,13 +36,13 @@ use Rattle.rulings.specs.Demand3.{passing_by, approach_to, passing_distance, Clo
 
 -- ---- one contact
 -- a contact that does not close is at its range
-abbrev range_in : Result Approach Refusal → Distance → Distance
-range_in (Ok (Approach.Closing cpa)) other = other
-range_in (Ok (Approach.Opening range)) other = range
-range_in (Ok (Approach.Stationary range)) other = range
+abbrev range_in : Result (Track Cpa) Refusal → Distance → Distance
+range_in (Ok (Track.Closing cpa)) other = other
+range_in (Ok (Track.Opening range)) other = range
+range_in (Ok (Track.Stationary range)) other = range
 range_in (Err why) other = other
 
-by_cases : (w : Result (Unit {0}) Refusal) (a b : Bool) (range : Distance) (cpa : Cpa) → range_in (cpa_by w (cond a (Approach.Stationary range) (cond b (Approach.Opening range) (Approach.Closing cpa)))) range ≡ range
+by_cases : (w : Result (Unit {0}) Refusal) (a b : Bool) (range : Distance) (cpa : Cpa) → range_in (cpa_by w (cond a (Track.Stationary range) (cond b (Track.Opening range) (Track.Closing cpa)))) range ≡ range
 by_cases (Err why) a b range cpa = refl
 by_cases (Ok tt) true b range cpa = refl
 by_cases (Ok tt) false true range cpa = refl
@@ -65,10 +65,10 @@ module _ (desired : Distance) (v : Vessel) (e : Entry) where
       closing true x q = absurd (not_blocked d q)
       closing false x q = ap (at d) q
 
-      go : (a : Result Approach Refusal) → approach_to v e ≡ a → passed_by (floor_of desired) a ≡ Some d → passing_by a e.contact.range ≡ d
-      go (Ok (Approach.Closing cpa)) q h = closing (lt cpa.distance.0 (floor_of desired)) cpa.distance h
-      go (Ok (Approach.Opening r)) q h = sym (at_range v e) ∙ ap (λ a. range_in a e.contact.range) q ∙ ap (at d) h
-      go (Ok (Approach.Stationary r)) q h = sym (at_range v e) ∙ ap (λ a. range_in a e.contact.range) q ∙ ap (at d) h
+      go : (a : Result (Track Cpa) Refusal) → approach_to v e ≡ a → passed_by (floor_of desired) a ≡ Some d → passing_by a e.contact.range ≡ d
+      go (Ok (Track.Closing cpa)) q h = closing (lt cpa.distance.0 (floor_of desired)) cpa.distance h
+      go (Ok (Track.Opening r)) q h = sym (at_range v e) ∙ ap (λ a. range_in a e.contact.range) q ∙ ap (at d) h
+      go (Ok (Track.Stationary r)) q h = sym (at_range v e) ∙ ap (λ a. range_in a e.contact.range) q ∙ ap (at d) h
       go (Err why) q h = absurd (not_blocked d h)
 
   module _ (o : FitVessel v) (f : FitTarget (target_of e)) where
@@ -88,10 +88,10 @@ module _ (desired : Distance) (v : Vessel) (e : Entry) where
         closing true x q = tt
         closing false x q = absurd (not_blocked x (sym q))
 
-        go : (a : Approach) → approach_to v e ≡ Ok a → passed (floor_of desired) (passing_in a) ≡ None → ClosesUnder desired v e
-        go (Approach.Closing cpa) q h = record { cpa = cpa; closing = q; under = closing (lt cpa.distance.0 (floor_of desired)) cpa.distance h }
-        go (Approach.Opening r) q h = absurd (not_blocked r (sym h))
-        go (Approach.Stationary r) q h = absurd (not_blocked r (sym h))
+        go : (a : Track Cpa) → approach_to v e ≡ Ok a → passed (floor_of desired) (passing_in a) ≡ None → ClosesUnder desired v e
+        go (Track.Closing cpa) q h = record { cpa = cpa; closing = q; under = closing (lt cpa.distance.0 (floor_of desired)) cpa.distance h }
+        go (Track.Opening r) q h = absurd (not_blocked r (sym h))
+        go (Track.Stationary r) q h = absurd (not_blocked r (sym h))
 
 -- ---- all contacts
 abbrev clears : Option Passing → Bool

@@ -18,7 +18,8 @@ use Rattle.std.specs.declared.result.Result.{Result}
 use Rattle.elementary.specs.declared.error.Refusal.{Refusal}
 use Rattle.motion.specs.declared.units.Direction.{Direction}
 use Rattle.arguments.specs.Check.{verdict}
-use Rattle.relative_motion.specs.declared.approach.Approach.{Approach}
+use Rattle.relative_motion.specs.declared.approach.Cpa.{Cpa}
+use Rattle.relative_motion.specs.declared.approach.Track.{Track}
 use Rattle.relative_motion.specs.Approach.{approach}
 use Rattle.situation.specs.declared.party.Party.{Party}
 use Rattle.situation.specs.declared.party.Visibility.{Visibility}
@@ -103,7 +104,7 @@ module _ (own : Party) (count : ℕ) (entries : List Entry) (visibility : Visibi
       fit : FitVessel (altered own.motion (signed side m))
       fit = altered_fit own.motion (signed side m) (Accepted.own_fit own count entries wind desired c h k) (signed-small side m (trial-small least most (Accepted.limits own count entries wind desired c h k) m t))
 
-      approaches : (e : Entry) → Memᴰ e entries → (a : Approach) × (approach_to (altered own.motion (signed side m)) e ≡ Ok a)
+      approaches : (e : Entry) → Memᴰ e entries → (a : Track Cpa) × (approach_to (altered own.motion (signed side m)) e ≡ Ok a)
       approaches e i = (approach (altered own.motion (signed side m)) e.contact e.target.motion, Contacts.answers desired (altered own.motion (signed side m)) e fit (Accepted.entry_fit own count entries wind desired c h k e i))
 
       fails : clears_by side m ≡ None → Clears own entries visibility wind desired c side m → ⊥

@@ -66,22 +66,22 @@ fn port_by_17(e: Encounter, duty: Responsibility) -> bool
     !(is_stand_on(duty) && is_crossing(e))
 }
 
-fn starboard_by(rule: Rule, relative: f64) -> bool
-    ensures { result ≡ Spec.starboard_by rule relative }
+fn starboard_by(d: Decision, relative: f64) -> bool
+    ensures { result ≡ Spec.starboard_by d.rule relative }
 {
-    match rule {
+    match d.rule {
         Rule::Rule19 => starboard_by_19(relative),
         _ => true,
     }
 }
 
-fn port_by(rule: Rule, e: Encounter, duty: Responsibility, relative: f64) -> bool
-    ensures { result ≡ Spec.port_by rule e duty relative }
+fn port_by(e: Encounter, d: Decision, relative: f64) -> bool
+    ensures { result ≡ Spec.port_by d.rule e d.responsibility relative }
 {
-    match rule {
+    match d.rule {
         Rule::Rule14 | Rule::Rule15 => false,
         Rule::Rule19 => port_by_19(e, relative),
-        _ => port_by_17(e, duty),
+        _ => port_by_17(e, d.responsibility),
     }
 }
 
@@ -90,8 +90,8 @@ fn permitted(e: Encounter, d: Decision, relative: f64) -> PermittedManoeuvre
     ensures { result ≡ Spec.permitted e d relative }
 {
     PermittedManoeuvre {
-        starboard: starboard_by(d.rule, relative),
-        port: port_by(d.rule, e, d.responsibility, relative),
+        starboard: starboard_by(d, relative),
+        port: port_by(e, d, relative),
         slow_down: true,
         hold: is_stand_on(d.responsibility),
     }

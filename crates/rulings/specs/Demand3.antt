@@ -13,7 +13,7 @@ use Rattle.std.specs.declared.result.Result.{Result}
 use Rattle.motion.specs.declared.units.Direction.{Direction}
 use Rattle.arguments.specs.Check.{verdict}
 use Rattle.relative_motion.specs.declared.approach.Cpa.{Cpa}
-use Rattle.relative_motion.specs.declared.approach.Approach.{Approach}
+use Rattle.relative_motion.specs.declared.approach.Track.{Track}
 use Rattle.relative_motion.specs.Approach.{cpa_answer}
 use Rattle.situation.specs.declared.party.Party.{Party}
 use Rattle.situation.specs.declared.party.Visibility.{Visibility}
@@ -36,13 +36,13 @@ Permits Starboard r = T r.manoeuvre.starboard
 Permits Port r = T r.manoeuvre.port
 
 -- 'its CPA on that course if closing there, else its present range'
-abbrev pub passing_by : Result Approach Refusal → Distance → Distance
-passing_by (Ok (Approach.Closing cpa)) range = cpa.distance
-passing_by (Ok (Approach.Opening r)) range = range
-passing_by (Ok (Approach.Stationary r)) range = range
+abbrev pub passing_by : Result (Track Cpa) Refusal → Distance → Distance
+passing_by (Ok (Track.Closing cpa)) range = cpa.distance
+passing_by (Ok (Track.Opening r)) range = range
+passing_by (Ok (Track.Stationary r)) range = range
 passing_by (Err why) range = range
 
-abbrev pub approach_to : Vessel → Entry → Result Approach Refusal
+abbrev pub approach_to : Vessel → Entry → Result (Track Cpa) Refusal
 approach_to v e = cpa_answer v e.contact e.target.motion
 
 abbrev pub passing_distance : Vessel → Entry → Distance
@@ -51,7 +51,7 @@ passing_distance v e = passing_by (approach_to v e) e.contact.range
 -- a contact closes under desired minus 1e-9
 pub record ClosesUnder (desired : Distance) (v : Vessel) (e : Entry) : Type 0 where
   pub cpa : Cpa
-  pub closing : approach_to v e ≡ Ok (Approach.Closing cpa)
+  pub closing : approach_to v e ≡ Ok (Track.Closing cpa)
   pub under : T (lt cpa.distance.0 (floor_of desired))
 
 -- the first contact of a list that passes at a distance
@@ -116,7 +116,7 @@ module _ (own : Party) (contacts : List Entry) (visibility : Visibility) (wind :
     -- every contact has a ruling
     pub each_ruled : (e : Entry) → Memᴰ e contacts → (r : Ruling) × (ruling_answer (situation_of own visibility wind e) standard ≡ Ok r)
     -- and on every trial's course `closest_point_of_approach` answers for it, so that 'no contact closes' is never said of a refusal
-    pub each_approach : (side : Side) (m : Float) → Trial m → (e : Entry) → Memᴰ e contacts → (a : Approach) × (approach_to (on side m) e ≡ Ok a)
+    pub each_approach : (side : Side) (m : Float) → Trial m → (e : Entry) → Memᴰ e contacts → (a : Track Cpa) × (approach_to (on side m) e ≡ Ok a)
     -- 'the ruled search refuses with 13 exactly if the rulings share no side,
     pub no_side : answer ≡ Err Why.NoSharedSide → (side : Side) → Shared side → ⊥
     pub «13_if» : ((side : Side) → Shared side → ⊥) → answer ≡ Err Why.NoSharedSide

@@ -16,7 +16,8 @@ use time::Duration;
 use traffic::Entry;
 
 // A trial that clears the traffic: the list that held it, its magnitude, the altered course, the time that the turn takes, the least passing
-// distance and whose it is.
+// distance and whose it is. Apart from `manoeuvre::AvoidanceManoeuvre`, the Rust's, whose one signed alteration loses the side of a turn of 0:
+// here side and magnitude stand apart.
 #[derive(Clone, Copy)]
 pub struct RuledManoeuvre {
     pub side: Side,

@@ -70,7 +70,7 @@ fn on_side(
     }
     let list = c.trials();
     let seed = seed_on(search.own.course, side, list.least, courses.on(side));
-    // A match, as in `Search::try_both`: of a closure that borrows `&Search<'_>`, `or_else` says nothing.
+    // A match: of a closure that borrows a type with a lifetime, here `&Search<'_>`, `or_else` says nothing of what it returns (tried).
     match try_seed(search, side, list.most, seed) {
         Some(c) => Some(c),
         None => search.smallest(only(side), list),

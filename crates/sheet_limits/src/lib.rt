@@ -13,14 +13,13 @@ use sheet_values::scaled;
 use time::Duration;
 
 // The id of the limiting contact, 0 where there is none.
-#[tactic(auto, using(crate::proofs::Ids::beyond, crate::proofs::Ids::inside), unfolding(crate::specs::Limits::id_at))]
+#[tactic(auto, unfolding(crate::specs::Limits::id_at))]
 pub fn id_at(rows: &[Row], limiting: Option<usize>) -> u32
     ensures { result ≡ Spec.id_at rows.now limiting }
 {
-    match limiting {
-        Some(place) if place < rows.len() => rows[place].id,
-        _ => 0,
-    }
+    limiting
+        .and_then(|place| rows.get(place))
+        .map_or(0, |row| row.id)
 }
 
 // The limits of the assessment.

@@ -1,5 +1,5 @@
 -- A sheet's words as a record of whole numbers (01, 'Encounter sheet and its program': the order of the words; 'checks: 15, 14, …'; R-1: 'the header record … gain[s] that wind').
-use Rattle.std.specs.Prelude.{cond, List, [], ◌∷◌, ◌++◌, ℕ, zero, suc, ◌+◌, ◌-◌, ◌*◌, ◌/◌, min, leb, length, get_or, None, Some, Err, Ok}
+use Rattle.std.specs.Prelude.{cond, List, [], ◌∷◌, ◌++◌, ℕ, zero, suc, ◌+◌, ◌-◌, ◌*◌, ◌/◌, min, leb, length, get_or, take, drop, None, Some, Err, Ok}
 use Rattle.elementary.specs.declared.error.Refusal.TheVariants as Why
 use Rattle.room.specs.Room.{max_contacts}
 use Rattle.sheet_words.specs.Word.{words, value, has_wind, header_length, layout}
@@ -44,6 +44,10 @@ row_from ws i = record {
   speed = value_at ws (i + 4);
   category = value_at ws (i + 5);
 }
+
+-- the six words of contact i
+abbrev pub contact_at : List ℕ → ℕ → List ℕ
+contact_at ws i = take 6 (drop (header_length ws + 6 * i) ws)
 
 unfoldable pub first_rows : List ℕ → ℕ → List Row
 first_rows ws zero = []

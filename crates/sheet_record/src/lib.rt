@@ -1,7 +1,7 @@
 // An encounter sheet as a record of whole numbers, as they stand in its words: the header and up to MAX_CONTACTS contacts.
 #![tactic(auto)]
 
-ghost use Rattle.std.specs.Prelude.{◌≡◌, map};
+ghost use Rattle.std.specs.Prelude.{◌≡◌, ◌<◌, List, length, map, get_or, ℕ};
 ghost use Rattle.std.specs.Int.{w32, from_le_bytes};
 ghost use Rattle.sheet_words.specs.Word as Words;
 ghost use Rattle.sheet_record.specs.Record as Spec;
@@ -69,12 +69,23 @@ pub fn header_of(bytes: &[u8]) -> Header
     }
 }
 
+// The whole contacts that follow the header, each as its six words.
+#[tactic(auto, using(crate::proofs::Filling::counted, crate::proofs::Filling::six_words))]
+fn contacts(bytes: &[u8]) -> &[[[u8; 4]; 6]]
+    ensures count { length result.now ≡ Spec.contact_count (Words.words bytes.now) }
+    ensures words { (i : ℕ) → (other : List (List ℕ)) → i < length result.now → map (from_le_bytes w32) (get_or result.now i other) ≡ Spec.contact_at (Words.words bytes.now) i }
+{
+    let words = sheet_words::words_of(bytes);
+    let header = sheet_words::header_length(bytes).min(words.len());
+    let (contacts, _) = words[header..].as_chunks::<6>();
+    contacts
+}
+
 // How many whole contacts follow the header.
-#[tactic(auto, using(crate::proofs::Counting::of_bytes))]
 pub fn contact_count(bytes: &[u8]) -> usize
     ensures { result ≡ Spec.contact_count (Words.words bytes.now) }
 {
-    (bytes.len() / 4).saturating_sub(sheet_words::header_length(bytes)) / 6
+    contacts(bytes).len()
 }
 
 // The value of a word that stands as its four bytes.
@@ -104,11 +115,8 @@ fn row_of(words: &[[u8; 4]; 6]) -> Row
 pub fn rows_of(bytes: &[u8]) -> ArrayVec<Row, MAX_CONTACTS>
     ensures { result.items ≡ Spec.rows_of (Words.words bytes.now) }
 {
-    let words = sheet_words::words_of(bytes);
-    let header = sheet_words::header_length(bytes).min(words.len());
-    let (contacts, _) = words[header..].as_chunks::<6>();
     let mut rows = ArrayVec::new();
-    for contact in room::first(contacts) {
+    for contact in room::first(contacts(bytes)) {
         rows.push(row_of(contact));
     }
     rows

@@ -40,14 +40,11 @@ fn vessel_of(course: u32, speed: u32) -> Vessel
     }
 }
 
+#[tactic(auto, unfolding(situation::specs::Situation::party))]
 fn party_of(course: u32, speed: u32, category: VesselCategory) -> Party
     ensures { result ≡ Spec.party course speed category }
 {
-    Party {
-        motion: vessel_of(course, speed),
-        heading: None,
-        category,
-    }
+    Party::new(vessel_of(course, speed), category)
 }
 
 // Own craft, who heads where she goes.

@@ -52,7 +52,7 @@ pub fn words_of(bytes: &[u8]) -> &[[u8; 4]]
     words
 }
 
-// Word i of a sheet, 0 where there is none.
+// Word i of a sheet, 0 where there is none. Apart from `replay::word`, of words of eight bytes, which says why.
 pub fn word_at(bytes: &[u8], i: usize) -> u32
     ensures { result ≡ get_or (Spec.words bytes.now) i 0 }
 {
@@ -110,10 +110,7 @@ fn is_ordered(bytes: &[u8]) -> bool
     ensures { result ≡ Spec.ordered (Spec.words bytes.now) }
 {
     let words = words_of(bytes);
-    if words.len() < 9 {
-        return false;
-    }
-    in_order(0, &words[..9]) && in_order(9, &words[header_length(bytes)..])
+    words.len() >= 9 && in_order(0, &words[..9]) && in_order(9, &words[header_length(bytes)..])
 }
 
 // Whether a sheet's layout is right: whole words, not too many, their kinds in order.

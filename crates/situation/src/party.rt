@@ -48,7 +48,8 @@ pub struct Situation {
     pub wind_from: Option<Direction>,
 }
 
-// What the rulings on all contacts share: own craft, the visibility, and where the wind comes from if that is known.
+// What the rulings on all contacts share: own craft, the visibility, and where the wind comes from if that is known. `Situation` has these fields
+// again and not one of this type: by the project's rule it holds what kinavis's has, in its order.
 #[derive(Clone, Copy)]
 pub struct Circumstances {
     pub own: Party,

@@ -9,7 +9,7 @@ use Rattle.motion.specs.declared.units.Distance.{Distance}
 use Rattle.motion.specs.declared.units.RateOfTurn.{RateOfTurn}
 use Rattle.motion.specs.declared.vessel.Vessel.{Vessel}
 use Rattle.motion.specs.declared.vessel.Contact.{Contact}
-use Rattle.relative_motion.specs.declared.approach.Approach.{Approach}
+use Rattle.relative_motion.specs.declared.approach.Track.{Track}
 use Rattle.relative_motion.specs.declared.approach.Cpa.{Cpa}
 use Rattle.assessment.specs.declared.assess.CollisionAssessment.{CollisionAssessment}
 use Rattle.std.specs.declared.option.Option.{Option}
@@ -101,8 +101,8 @@ abbrev pub turning : ℕ → RateOfTurn
 turning r = record { 0 = bits r }
 
 -- an approach by the bits of its distance; a ruling that permits both sides; a turn, its figures by their bits
-abbrev pub closing : ℕ → ℕ → ℕ → Approach
-closing distance secs nanos = Approach.Closing (nearing distance secs nanos)
+abbrev pub closing : ℕ → ℕ → ℕ → Track Cpa
+closing distance secs nanos = Track.Closing (nearing distance secs nanos)
 
 abbrev pub ruling : Encounter → Responsibility → Rule → Ruling
 ruling encounter duty rule = record { encounter = encounter; responsibility = duty; rule = rule; manoeuvre = record { starboard = true; port = true; slow_down = true; hold = false } }
@@ -122,7 +122,7 @@ spelled n [] = n
 spelled n (b ∷ bs) = spelled (n * 256 + b) bs
 
 -- 0 closing, 1 opening, 2 stationary, 9 refused
-abbrev pub kind : Result Approach Refusal → ℕ
+abbrev pub kind : Result (Track Cpa) Refusal → ℕ
 kind (Ok a) = approach_kind a
 kind (Err why) = 9
 

@@ -39,7 +39,7 @@ use Rattle.elementary.specs.Range.{in_range}
 use Rattle.motion.specs.Vessel.{difference, direction_of, offset, relative_velocity, resolved, unit, velocity}
 use Rattle.arguments.specs.Check.{encounter_checks, is_direction, is_distance, is_speed, verdict}
 use Rattle.elementary.specs.declared.error.Refusal.TheVariants as Refusal
-use Rattle.relative_motion.specs.declared.approach.Approach.TheVariants as Approach
+use Rattle.relative_motion.specs.declared.approach.Track.TheVariants as Track
 use Rattle.risk.specs.declared.CollisionRisk.TheVariants as Risk
 use Rattle.relative_motion.specs.Approach.{approach, approach_from, closest, closing_rate, cpa_answer, cpa_number, relative_speed, time_of, time_to_go}
 use Rattle.bow.specs.Bow.{bow_answer, bow_number, crossing, determinant}
@@ -222,8 +222,8 @@ table =
     ∷ prints (sample_header ++ (sample_contact ++ (0xF001_6800 ∷ []))) "REFUSED 15\n"
     -- lines: seconds are rounded down, the range stands for the closest approach, ties go to even, a carry runs into the whole part
     ∷ says (contact_line 4294967295 (closing 0x3ff1_0000_0000_0000 1949 999999999) Risk.Passing (ruling (Crossing Port) StandOn Rule17)) "CONTACT 4294967295 CLOSING 1.062 1949 PASSING CROSSING-P STANDON 17\n"
-    ∷ says (contact_line 0 (Approach.Opening (record { 0 = bits 0x3ff3_0000_0000_0000 })) Risk.Opening (ruling BeingOvertaken StandOn Rule13)) "CONTACT 0 OPENING 1.188 - OPENING BEING-OVERTAKEN STANDON 13\n"
-    ∷ says (contact_line 12 (Approach.Stationary (record { 0 = bits 0x408f_ffff_0000_0000 })) Risk.Opening (ruling HeadOn Both Rule14)) "CONTACT 12 STATIONARY 1024.000 - OPENING HEAD-ON BOTH 14\n"
+    ∷ says (contact_line 0 (Track.Opening (record { 0 = bits 0x3ff3_0000_0000_0000 })) Risk.Opening (ruling BeingOvertaken StandOn Rule13)) "CONTACT 0 OPENING 1.188 - OPENING BEING-OVERTAKEN STANDON 13\n"
+    ∷ says (contact_line 12 (Track.Stationary (record { 0 = bits 0x408f_ffff_0000_0000 })) Risk.Opening (ruling HeadOn Both Rule14)) "CONTACT 12 STATIONARY 1024.000 - OPENING HEAD-ON BOTH 14\n"
     ∷ says (contact_line 1 (closing 0x8000_0000_0000_0000 0 0) Risk.Developing (ruling (Crossing Starboard) Undetermined Rule12)) "CONTACT 1 CLOSING 0.000 0 DEVELOPING CROSSING-S UNDETERMINED 12\n"
     -- without contacts; to port at 0; refusals
     ∷ says (alter_line (turn Starboard 0 0x4066_8000_0000_0000 0x7fef_ffff_ffff_ffff None) 0) "ALTER S 0.000 180.000 FREE NONE\n"

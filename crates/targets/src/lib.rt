@@ -6,7 +6,6 @@ ghost use Rattle.targets.specs.Picture as Spec;
 
 use assessment::assess::CollisionAssessment;
 use risk::CollisionRisk;
-use std::cmp::Ordering;
 use time::Duration;
 
 // An assessment, and the number by which its target is known.
@@ -23,16 +22,13 @@ fn time_of(p: Option<Duration>) -> Duration
     p.unwrap_or(Duration::MAX)
 }
 
-// Whether one is more dangerous than another: a higher risk, or the same and less time.
+// Whether one is more dangerous than another: a higher risk, or the same and less time. Of a pair that is less the time is the less one too, so
+// that each pair has the other's time.
 #[tactic(auto, unfolding(crate::specs::Picture::outranks, time::specs::Clock::is_before))]
 fn outranks(a: CollisionAssessment, b: CollisionAssessment) -> bool
     ensures { result ≡ Spec.outranks a b }
 {
-    match a.risk().cmp(&b.risk()) {
-        Ordering::Less => false,
-        Ordering::Equal => time_of(a.tcpa()) < time_of(b.tcpa()),
-        Ordering::Greater => true,
-    }
+    (b.risk(), time_of(a.tcpa())) < (a.risk(), time_of(b.tcpa()))
 }
 
 // The more dangerous of the best so far and the next one, the next on equality.

@@ -64,7 +64,8 @@ impl Text {
         self.bytes.as_slice()
     }
 
-    // The bytes of s at the end. The words are byte strings: document 01 fixes each one's bytes, and by `Display` contracts would follow formatting too.
+    // The bytes of s at the end. The words are byte strings, whose bytes document 01 fixes, and no `Display`: `write!` says what it wrote only where it
+    // answers `Ok`, and nowhere that it does, while a text takes every piece.
     pub fn put(&mut self, s: &[u8])
         ensures { self.new ≡ appended self.old s.now }
     {

@@ -29,7 +29,7 @@ impl TrialList {
         self.last() + 1
     }
 
-    // Trial k.
+    // Trial k. Not `sum.min(self.most)`: it answers the most where the sum is no number, for which the definition has the sum.
     #[tactic(auto, unfolding(crate::specs::Trials::trial))]
     pub fn trial(self, k: usize) -> f64
         ensures { result ≡ Spec.trial self.least self.most k }

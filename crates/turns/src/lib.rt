@@ -1,5 +1,6 @@
 // The remainder of an f64 by a full turn, 360, without a division: whole numbers of full turns are taken away, 2^1015 of them first where there
-// are so many, then half as many, and so on to one. Every difference is exact (proofs/Laws.antt).
+// are so many, then half as many, and so on to one. Every difference is exact (proofs/Laws.antt). Not by `%`, which is what the contract says:
+// it compiles to a call of the C library's `fmod`, which nothing proves (docs/DECISIONS.md, 'Folds').
 #![tactic(auto)]
 
 ghost use Rattle.std.specs.Prelude.{◌≡◌, false, cond, ◌≤◌};

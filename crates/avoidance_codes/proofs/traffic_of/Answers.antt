@@ -18,7 +18,7 @@ pub entry_at-requires : goal.entry_at-requires
 entry_at-requires c = subst (λ n. n < 1000) (sym c.place_of.ensures) (placed _ _ (omega (arith, c.loop-i-test.true, c.held-n.ensures)))
 
 pub push-requires : goal.push-requires
-push-requires c = (lit< tt, omega (arith, c.loop-i-test.true, c.held-n.ensures, ap length c.loop-i.invariant.1, as_many c.args.wide c.args.floats.now c.loop-i.i))
+push-requires c = (lit< tt, omega (arith, c.loop-i-test.true, c.held-n.ensures, ap length c.loop-i.invariant.1, as_many c.args.layout c.args.floats.now c.loop-i.i))
 
 pub loop-i-preserved : goal.loop-i-preserved
 loop-i-preserved c = (omega (arith, c.loop-i-test.true), c.push.ensures.items ∙ one_more _ _ _ _ _ _ c.place_of.ensures c.entry_at.ensures c.loop-i.invariant.1)

@@ -1,15 +1,15 @@
 use mathlib.Core.Path.{◌≡◌, refl, ap, ◌∙◌}
-use mathlib.Core.Bool.{false}
 use mathlib.Core.List.{map}
 use lib.Seq.{take_all}
 use Rattle.room.specs.Room.{max_contacts}
 use Rattle.clearing.specs.Clearing.{floor_of, moving}
 use Rattle.traffic.specs.Traffic.{target_of, targets}
+use Rattle.avoidance_codes.specs.declared.Layout.{Layout}
 use Rattle.exports_avoidance.specs.Words.{entries}
 use Rattle.exports_avoidance.proofs.avoidance_search.Goals as goal
 
 -- the scene has all contacts
-listed : (c : goal.After-word_or) → c.deref-2.result.now ≡ map moving (map target_of (entries false c.args.floats.now c.args.count))
+listed : (c : goal.After-word_or) → c.deref-2.result.now ≡ map moving (map target_of (entries Layout.Search c.args.floats.now c.args.count))
 unfolding targets
 listed c =
     c.deref-2.ensures.0 ∙ c.scene_of-scene.ensures

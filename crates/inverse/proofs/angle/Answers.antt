@@ -22,10 +22,10 @@ pub octant-requires : goal.octant-requires
 octant-requires c = (not-zero c.args.b c.if-b.false, le_of_lt (ltb→lt _ _ (holds (is_below c.args.a c.args.b c.if-a-b.true))))
 
 pub returns-then-a-b : goal.returns-then-a-b
-returns-then-a-b c = (steep_case c.args.left (units_of c.args.a.value) (units_of c.args.b.value) _ _ (is_zero c.args.b c.if-b.false) (is_zero c.args.a c.if-a.false) (is_below c.args.a c.args.b c.if-a-b.true) c.octant.ensures.0 c.placed.ensures.0, c.placed.ensures.1)
+returns-then-a-b c = (steep_case c.args.left (units_of c.args.a.value) (units_of c.args.b.value) _ _ (is_zero c.args.b c.if-b.false) (is_zero c.args.a c.if-a.false) (is_below c.args.a c.args.b c.if-a-b.true) c.octant.ensures c.placed.ensures.0, c.placed.ensures.1)
 
 pub octant-requires-2 : goal.octant-requires-2
 octant-requires-2 c = (not-zero c.args.a c.if-a.false, nltb→le _ _ (subst (λ b. T (not b)) (sym (is_below c.args.a c.args.b c.if-a-b.false)) tt))
 
 pub returns : goal.returns
-returns c = (low_case c.args.left (units_of c.args.a.value) (units_of c.args.b.value) _ _ (is_zero c.args.b c.if-b.false) (is_zero c.args.a c.if-a.false) (is_below c.args.a c.args.b c.if-a-b.false) c.octant-2.ensures.0 c.placed-2.ensures.0, c.placed-2.ensures.1)
+returns c = (low_case c.args.left (units_of c.args.a.value) (units_of c.args.b.value) _ _ (is_zero c.args.b c.if-b.false) (is_zero c.args.a c.if-a.false) (is_below c.args.a c.args.b c.if-a-b.false) c.octant-2.ensures c.placed-2.ensures.0, c.placed-2.ensures.1)

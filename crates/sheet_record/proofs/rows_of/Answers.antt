@@ -18,10 +18,10 @@ pub loop-contact-preserved : goal.loop-contact-preserved
 loop-contact-preserved c =
     c.push.ensures.items
     ∙ one_more _ c.loop-contact.rows.items c.loop-contact.contact-index _
-    (made_row _ _ c.words_of-words.ensures _ (c.min-header.ensures ∙ ap (λ n. Prim.Native.Nat.min n (length c.words_of-words.result.now)) c.header_length.ensures) _ _ c.as_chunks.ensures.front c.as_chunks.ensures.front_len c.first-contact-items.ensures.value c.loop-contact.contact-index _ _ c.loop-contact-test.true c.row_of.ensures)
+    (made_row _ _ _ c.contacts.ensures.count c.contacts.ensures.words c.first-contact-items.ensures.value c.loop-contact.contact-index _ _ c.loop-contact-test.true c.row_of.ensures)
     c.loop-contact.invariant
 
 pub returns : goal.returns
 returns c =
-    all_read _ _ c.words_of-words.ensures _ (c.min-header.ensures ∙ ap (λ n. Prim.Native.Nat.min n (length c.words_of-words.result.now)) c.header_length.ensures) _ _ c.as_chunks.ensures.front c.as_chunks.ensures.front_len c.first-contact-items.ensures.value c.loop-contact.rows.items
-    c.loop-contact.contact-index (omega (arith, c.loop-contact-test.false, c.loop-contact.auto.contact-index-end)) c.loop-contact.invariant
+    all_read _ _ _ c.contacts.ensures.count c.contacts.ensures.words c.first-contact-items.ensures.value c.loop-contact.rows.items c.loop-contact.contact-index
+    (omega (arith, c.loop-contact-test.false, c.loop-contact.auto.contact-index-end)) c.loop-contact.invariant

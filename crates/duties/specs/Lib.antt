@@ -1,0 +1,2 @@
+-- What a rule says, as a decision.
+pub mod Says
