@@ -35,7 +35,7 @@ use Rattle.traffic.specs.Traffic.{target_of}
 use Rattle.motion_laws.specs.Sound.{HeldVessel}
 use Rattle.choice_laws.proofs.Accepting.{good_both}
 use Rattle.choice_laws.proofs.Prepared.{accepted}
-use Rattle.rulings.specs.Demand3.{OnAccepted}
+use Rattle.ruled_laws.specs.Demand3.{OnAccepted}
 use Rattle.rulings.specs.Ruled.{situation_of, shared_sides, ruled_checks, chosen_answer, answered, ruled, ruled_by, ruled_answer}
 use Rattle.ruled_laws.specs.Held.{HeldEntry, HeldArguments}
 use Rattle.ruled_laws.proofs.Accepted as Ruling

@@ -16,7 +16,7 @@ use Rattle.constraints.specs.declared.ManoeuvreConstraints.{ManoeuvreConstraints
 use Rattle.constraints.specs.declared.PermittedSides.TheVariants.{Either}
 use Rattle.std.specs.declared.result.Result.{Result}
 use Rattle.rulings.specs.declared.RuledManoeuvre.{RuledManoeuvre}
-use Rattle.rulings.specs.Demand3.{OnAccepted}
+use Rattle.ruled_laws.specs.Demand3.{OnAccepted}
 use Rattle.rulings.specs.Ruled.{situation_of, ruled}
 use Rattle.sheet_words.specs.Word.{words}
 use Rattle.sheet_record.specs.declared.Header.{Header}

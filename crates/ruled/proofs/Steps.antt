@@ -25,7 +25,7 @@ use Rattle.traffic.specs.declared.Entry.{Entry}
 use Rattle.traffic.specs.Traffic.{target_of}
 use Rattle.rulings.specs.declared.RuledManoeuvre.{RuledManoeuvre}
 use Rattle.rulings.specs.Ruled.{shared_sides, ruled_checks, chosen_answer, answered, ruled, ruled_as, ruled_by, ruled_answer}
-use Rattle.rulings.specs.Demand3.{Demand3}
+use Rattle.ruled_laws.specs.Demand3.{Demand3}
 use Rattle.ruled_laws.specs.Held.{HeldArguments}
 use Rattle.ruled_laws.proofs.Accepted as Accepted
 use Rattle.ruled_laws.proofs.Demanded.{demanded}

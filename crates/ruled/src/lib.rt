@@ -1,10 +1,10 @@
 // The ruled search: the smallest trial that clears all traffic, on a side that the ruling on every contact permits. Its contract holds the
-// equation with its definition (rulings, specs/Ruled.antt) and the order's third demand, clause by clause (specs/Demand3.antt there).
+// equation with its definition (rulings, specs/Ruled.antt) and the order's third demand, clause by clause (ruled_laws, specs/Demand3.antt).
 #![tactic(auto)]
 
 ghost use Rattle.std.specs.Prelude.{◌≡◌, OnOk, length};
 ghost use Rattle.arguments.specs.Check as Check;
-ghost use Rattle.rulings.specs.Demand3.{Demand3};
+ghost use Rattle.ruled_laws.specs.Demand3.{Demand3};
 ghost use Rattle.rulings.specs.Ruled as Spec;
 ghost use Rattle.traffic.specs.Traffic as Around;
 

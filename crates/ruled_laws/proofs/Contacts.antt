@@ -32,7 +32,7 @@ use Rattle.choice_laws.specs.Closest.{Real, Closest}
 use Rattle.choice_laws.specs.Fit.{FitVessel, FitTarget, FitTargets}
 use Rattle.choice_laws.proofs.Passages.{not_blocked, at, blocked, blocks_it, clear}
 use Rattle.choice_laws.proofs.Prepared.{accepted, real}
-use Rattle.rulings.specs.Demand3.{passing_by, approach_to, passing_distance, ClosesUnder, FirstAt}
+use Rattle.ruled_laws.specs.Demand3.{passing_by, approach_to, passing_distance, ClosesUnder, FirstAt}
 
 -- ---- one contact
 -- a contact that does not close is at its range

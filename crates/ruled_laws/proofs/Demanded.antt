@@ -46,7 +46,7 @@ use Rattle.choice_laws.proofs.Searched.{trial-small, signed-small}
 use Rattle.choice_laws.proofs.Chosen.{is_choice, no_choice}
 use Rattle.rulings.specs.declared.RuledManoeuvre.{RuledManoeuvre}
 use Rattle.rulings.specs.Ruled.{shared_sides, ruled_checks, manoeuvre_of, chosen_answer, answered, ruled, ruled_by, ruled_number, ruled_answer}
-use Rattle.rulings.specs.Demand3.{approach_to, Shared, Trial, Clears, Smallest, OnAccepted, Demand3}
+use Rattle.ruled_laws.specs.Demand3.{approach_to, Shared, Trial, Clears, Smallest, OnAccepted, Demand3}
 use Rattle.ruled_laws.specs.Held.{HeldArguments}
 use Rattle.ruled_laws.proofs.Accepted as Accepted
 use Rattle.ruled_laws.proofs.Contacts as Contacts

@@ -24,7 +24,7 @@ use Rattle.motion.specs.declared.side.BySide.{BySide}
 use Rattle.choice_laws.specs.Smallest.{allows}
 use Rattle.traffic.specs.declared.Entry.{Entry}
 use Rattle.rulings.specs.Ruled.{situation_of, permitted_by, sides_of, in_both, either, join_sides, shared_sides}
-use Rattle.rulings.specs.Demand3.{Ruled, Shared}
+use Rattle.ruled_laws.specs.Demand3.{Ruled, Shared}
 
 both_allow : (a b : BySide Bool) (side : Side) → T (allows (in_both a b) side) → T (allows a side) × T (allows b side)
 unfolding in_both

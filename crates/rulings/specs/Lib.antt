@@ -1,3 +1,2 @@
--- The ruled search, as a definition and as the order demands it.
-pub mod Demand3
+-- The ruled search, as a definition.
 pub mod Ruled

@@ -1,5 +1,5 @@
 // The sides to which every ruling on the traffic lets own craft alter, and what the ruled search answers. specs/Ruled.antt has the
-// ruled search as a definition, specs/Demand3.antt the order's third demand, clause by clause.
+// ruled search as a definition.
 #![tactic(auto)]
 
 ghost use Rattle.std.specs.Prelude.{◌≡◌};
