@@ -15,14 +15,12 @@ sheets (oracle/, built before).
 import os
 import random
 import re
-import shutil
 import subprocess
 import sys
-import tempfile
-from pathlib import Path
 
-ROOT = Path(__file__).resolve().parent.parent
-COPY = Path(tempfile.gettempdir()) / ("dezhrovel-sweep-program" if sys.argv[1:] == ["program"] else "dezhrovel-sweep")
+import tree
+
+ROOT = tree.ROOT
 
 # Functions that promise nothing of their outcome, and why a fault there changes no answer: the contract of each caller is an equation, which
 # is proved for every outcome of them.
@@ -128,20 +126,12 @@ def chosen(count, crates):
     return picked[:count]
 
 
-def copied():
-    """A copy of the repository without its edits, with what is built."""
-    shutil.rmtree(COPY, ignore_errors=True)
-    COPY.mkdir(parents=True)
-    shutil.copy(ROOT / "crates.txt", COPY)
-    shutil.copytree(ROOT / "crates", COPY / "crates", ignore=shutil.ignore_patterns("must-fail"), symlinks=True)
-
-
-def found(old, new):
+def found(copy, old, new):
     """What finds a fault in the program: its proof, its stored output, the comparison, or nothing."""
-    source = COPY / "crates" / "encounter" / "src" / "main.rt"
+    source = copy / "crates" / "encounter" / "src" / "main.rt"
     text = (ROOT / "crates" / "encounter" / "src" / "main.rt").read_text()
     source.write_text(text.replace(old, new))
-    folder = COPY / "crates" / "encounter"
+    folder = copy / "crates" / "encounter"
     if subprocess.run(["rt", "check"], cwd=folder, capture_output=True).returncode != 0:
         return "proof"
     subprocess.run(["rt", "run"], cwd=folder, stdin=open(folder / "stdin", "rb"), capture_output=True)
@@ -157,10 +147,10 @@ def found(old, new):
 
 
 def program():
-    copied()
+    copy = tree.copied("dezhrovel-sweep-program")
     tally = {}
     for file, number, old, new, kind, second in faults("encounter"):
-        by = found(old, new)
+        by = found(copy, old, new)
         if by is None:
             by = survivor(f"crates/encounter/{file}", number, kind, old.strip(), new.strip())
         tally[by] = tally.get(by, 0) + 1
@@ -173,15 +163,15 @@ def main():
         program()
     count = int(sys.argv[1]) if len(sys.argv) > 1 else 240
     libraries = [c.name for c in sorted((ROOT / "crates").iterdir()) if (c / "src").is_dir() and not (c / "src" / "main.rt").exists()]
-    copied()
+    copy = tree.copied("dezhrovel-sweep")
     named = {}
     for i, (crate, (file, number, old, new, kind, second)) in enumerate(chosen(count, sys.argv[2:] or libraries)):
-        folder = COPY / "crates" / crate / "must-fail"
+        folder = copy / "crates" / crate / "must-fail"
         folder.mkdir(exist_ok=True)
         pairs = f"old: {old}\nnew: {new}\n" + (f"old: {second[0]}\nnew: {second[1]}\n" if second else "")
         (folder / f"m{i:04}.edit").write_text(f"file: {file}\n{pairs}")
         named[f"{crate}/m{i:04}.edit"] = (f"crates/{crate}/{file}", number, kind, old.strip(), new.strip())
-    run = subprocess.run(["rt", "must-fail", *sys.argv[2:]], cwd=COPY, capture_output=True, text=True)
+    run = subprocess.run(["rt", "must-fail", *sys.argv[2:]], cwd=copy, capture_output=True, text=True)
     refused = re.findall(r"must-fail (\S+): refused", run.stdout)
     survived = re.findall(r"must-fail (\S+): NOT REFUSED", run.stdout)
     unbuilt = re.findall(r"must-fail (\S+): BAD EDIT", run.stdout)
