@@ -9,8 +9,7 @@ use std::{env, fs};
 
 /// The archives with the port's C exports.
 const ARCHIVES: &[&str] = &[
-    "exports_elementary", "exports", "exports_time", "exports_motion", "exports_course", "exports_ruling", "exports_assessment", "exports_picture",
-    "exports_avoidance", "exports_report",
+    "exports_leaves", "exports", "exports_report",
 ];
 
 /// The listed files in use: module name and path below the sources' folder. The name `error` is the kernel's, and `assessment` and

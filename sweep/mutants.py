@@ -25,19 +25,13 @@ ROOT = tree.ROOT
 # Functions that promise nothing of their outcome, and why a fault there changes no answer: the contract of each caller is an equation, which
 # is proved for every outcome of them.
 GUESSES = {
-    ("crates/arcs/src/guess.rt", None): "a guess at a step, which the search checks",
-    ("crates/root/src/lib.rt", "guess"): "a guess at a root, whose square is compared",
-    ("crates/clearing/src/lib.rt", "is_suspect"): "which contact is worked out first",
+    ("crates/inverse_trigonometry/src/guess.rt", None): "a guess at a step, which the search checks",
+    ("crates/roots/src/lib.rt", "guess"): "a guess at a root, whose square is compared",
+    ("crates/clearance/src/lib.rt", "is_suspect"): "which contact is worked out first",
 }
 
 # Faults that leave every answer as it is: file, line, faulty line.
-SAME = {
-    ("crates/room/src/lib.rt", "if count < MAX_CONTACTS {", "if count <= MAX_CONTACTS {"): "both branches give MAX_CONTACTS there",
-    ("crates/text/src/lib.rt", "if self.len < ROOM {", "if self.len <= ROOM {"): "both branches give ROOM there",
-    ("crates/root/src/lib.rt", "if d + 4 < high {", "if d + 5 < high {"): "from where on a square counts as far: the root is then found by its digits",
-    ("crates/root/src/lib.rt", "if high + 4 < d {", "if high + 5 < d {"): "as above",
-    ("crates/encounter/src/main.rt", "while done < room {", "while done <= room {"): "a read of no bytes follows, which ends the loop",
-}
+SAME = {}
 
 SHOWN, OPEN = "changes no answer", "SURVIVED"
 

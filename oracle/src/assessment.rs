@@ -70,9 +70,13 @@ fn of_corner(corner: [f64; 8]) -> AssessArguments {
     words
 }
 
-pub fn port(part: u32, words: AssessArguments) -> u64 {
+fn call(words: AssessArguments) -> port::Contact {
     let [own_course, own_speed, bearing, range, course, speed, limit, ..] = words.map(f64::from_bits);
-    port::assess(part, own_course, own_speed, bearing, range, course, speed, limit, words[TIME], words[TIME + 1] as u32)
+    port::assess([own_course, own_speed], [bearing, range, course, speed], limit, words[TIME], words[TIME + 1] as u32)
+}
+
+pub fn port(part: u32, words: AssessArguments) -> u64 {
+    call(words).part(part)
 }
 
 /// Document 01's answer: the first bad argument decides, and with none bad the Rust does.
@@ -250,16 +254,12 @@ fn picture_difference(random: &mut Random, sizes: &mut [u64; 4]) -> Option<Strin
     let contacts = pictured(random);
     let bits = |c: &[f64; 4]| (c[1] >= 0.0).then(|| c.map(f64::to_bits));
     let encounters: Vec<_> = contacts.iter().map(bits).collect();
-    let first = encounters[0].is_some();
-    let wanted = if first { picture(limit, secs, [0.0f64, 10.0].map(f64::to_bits), &encounters) } else { None }.unwrap_or([0; 15]);
+    let wanted = picture(limit, secs, [0.0f64, 10.0].map(f64::to_bits), &encounters).unwrap_or([0; 15]);
     sizes[(contacts.len() - 1) / 8] += 1;
-    let floats: Vec<f64> = [0.0, 10.0].into_iter().chain(contacts.iter().flatten().copied()).collect();
-    let got: Vec<u64> = (0..PICTURE).map(|part| port::picture(part, contacts.len(), limit, secs, &floats)).collect();
+    let call = port::picture([0.0, 10.0], contacts.iter().copied(), limit, secs);
+    let got: Vec<u64> = (1..=PICTURE).map(|part| call.part(part)).collect();
     (got != wanted).then(|| format!("{limit} {secs} {contacts:?}: {got:?}, not {wanted:?}"))
 }
-
-/// The function's number in the records.
-const ASSESS: u64 = 8;
 
 /// Cases in the records.
 const EACH: u64 = 120;
@@ -271,7 +271,7 @@ pub fn write(module: &mut Module) {
         let words = if i < EACH * 2 / 3 { adversarial(i, &mut random) } else { random_arguments(&mut random) };
         assert_eq!(difference(words, reference(words)), None);
         for part in 0..PARTS {
-            module.push(ASSESS, part, words, port(part, words));
+            module.push(&call(words), part);
         }
     }
 }

@@ -6,7 +6,7 @@ mod one;
 mod ruled;
 
 pub use lists::{how_many, own, style, traffic};
-pub use one::{answered, write, Avoid};
+pub use one::{answered, Avoid};
 pub use ruled::RuledCase;
 
 use lists::Search;
@@ -28,6 +28,31 @@ use crate::traffic_calls::{
 };
 use crate::vectors::Module;
 
+/// Adds records and answers of `avoid`, the search and the ruled search. An answer is the port's once it is known to be the Rust's.
+pub fn write(module: &mut Module) {
+    write_cases::<Avoid>(module, 150, 9);
+    write_cases::<Search>(module, 60, 6);
+    write_cases::<RuledCase>(module, 100, 9);
+}
+
+/// So many cases that fit a record, with every part of their answers.
+fn write_cases<C: Case>(module: &mut Module, count: u64, parts: u32) {
+    let mut random = generator(C::NAME);
+    let mut kept = 0;
+    for i in 0.. {
+        let case = C::case(i, 2 * count, &mut random);
+        let call = case.asked();
+        if call.words.len() <= 34 {
+            assert_eq!(case.difference(i, &case.reference()), None);
+            (0..parts).for_each(|part| module.push(&call, part));
+            kept += 1;
+        }
+        if kept == count {
+            return;
+        }
+    }
+}
+
 /// Cases of a function, with their reference and what is counted of them.
 trait Case: Sized {
     const NAME: &'static str;
@@ -38,6 +63,8 @@ trait Case: Sized {
     fn case(i: u64, count: u64, random: &mut Random) -> Self;
     fn reference(&self) -> Self::Answer;
     fn count(&self, answer: &Self::Answer, tally: &mut Self::Tally);
+    /// The call of the port.
+    fn asked(&self) -> port::Call<Vec<u64>>;
     /// The words of a difference in a part of the answer; i chooses the parts where not all are looked at.
     fn difference(&self, i: u64, wanted: &Self::Answer) -> Option<String>;
 }

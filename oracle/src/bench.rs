@@ -45,7 +45,7 @@ fn elementary_calls() {
 
 fn module_calls() {
     for f in &motion::FUNCTIONS {
-        each(f.answered(COUNTED), |words| (f.port)(f.parts - 1, words));
+        each(f.answered(COUNTED), |words| (f.port)(words).part(f.parts - 1));
     }
     each(ruling::answered(COUNTED), |case| case.port(1));
     each(assessment::answered(COUNTED), |words| assessment::port(1, words));
@@ -107,7 +107,7 @@ fn relative_motion() {
     println!("function                         port  Rust, port's six       Rust  ratio");
     for f in &motion::FUNCTIONS {
         let cases = f.answered(COUNT / 4);
-        let (port, six, std) = (measure(&cases, |a| (f.port)(f.parts - 1, a)), measure(&cases, f.rust), measure(&cases, f.rust_std));
+        let (port, six, std) = (measure(&cases, |a| (f.port)(a).part(f.parts - 1)), measure(&cases, f.rust), measure(&cases, f.rust_std));
         row(f.name, port, six, std);
     }
 }

@@ -10,13 +10,13 @@ use crate::inputs::{neighbour, Random};
 use crate::vectors::Module;
 use crate::{math, port};
 
-/// A function: its arguments, how many parts its answer has, the port's (which answers a part) and the Rust on the port's
+/// A function: its arguments, how many parts its answer has, the port's call and the Rust on the port's
 /// elementary functions and on the standard library's; and arguments from document 01's corners and examples.
 pub struct Function {
     pub name: &'static str,
     kinds: &'static [Kind],
     pub parts: u32,
-    pub port: fn(u32, Words) -> u64,
+    pub port: fn(Words) -> port::Encounter,
     pub rust: fn(Words) -> Answer,
     pub rust_std: fn(Words) -> Answer,
     corners: &'static [&'static [f64]],
@@ -24,10 +24,10 @@ pub struct Function {
 
 const ENCOUNTER: &[Kind] = &[Direction, Speed, Direction, Distance, Direction, Speed];
 
-/// An export that takes an encounter.
-fn of_encounter(f: fn(u32, f64, f64, f64, f64, f64, f64) -> u64, part: u32, words: Words) -> u64 {
+/// Own course and speed, and the contact's bearing, range, course and speed.
+fn encounter(words: Words) -> ([f64; 2], [f64; 4]) {
     let [own_course, own_speed, bearing, range, course, speed, ..] = words.map(f64::from_bits);
-    f(part, own_course, own_speed, bearing, range, course, speed)
+    ([own_course, own_speed], [bearing, range, course, speed])
 }
 
 /// In the order of their numbers in the records.
@@ -36,16 +36,22 @@ pub const FUNCTIONS: [Function; 6] = [
         name: "closest_point_of_approach",
         kinds: ENCOUNTER,
         parts: 6,
-        port: |part, words| of_encounter(port::cpa, part, words),
+        port: |words| {
+            let (own, contact) = encounter(words);
+            port::cpa(own, contact)
+        },
         rust: calls::cpa,
         rust_std: kinavis_std::calls::cpa,
         corners: APPROACHES,
     },
     Function {
-        name: "passing",
+        name: "approach_distance",
         kinds: ENCOUNTER,
         parts: 3,
-        port: |part, words| of_encounter(port::passing, part, words),
+        port: |words| {
+            let (own, contact) = encounter(words);
+            port::approach_distance(own, contact)
+        },
         rust: calls::passing,
         rust_std: kinavis_std::calls::passing,
         corners: APPROACHES,
@@ -54,9 +60,9 @@ pub const FUNCTIONS: [Function; 6] = [
         name: "target_from_plot",
         kinds: &[Direction, Speed, Direction, Distance, Direction, Distance, Elapsed],
         parts: 6,
-        port: |part, words| {
+        port: |words| {
             let [own_course, own_speed, bearing, range, bearing2, range2, ..] = words.map(f64::from_bits);
-            port::plot(part, own_course, own_speed, bearing, range, bearing2, range2, words[6], words[7] as u32)
+            port::plot([own_course, own_speed], [bearing, range], [bearing2, range2], words[6], words[7] as u32)
         },
         rust: calls::plot,
         rust_std: kinavis_std::calls::plot,
@@ -76,7 +82,10 @@ pub const FUNCTIONS: [Function; 6] = [
         name: "bow_crossing_range",
         kinds: ENCOUNTER,
         parts: 2,
-        port: |part, words| of_encounter(port::bow, part, words),
+        port: |words| {
+            let (own, contact) = encounter(words);
+            port::bow(own, contact)
+        },
         rust: calls::bow,
         rust_std: kinavis_std::calls::bow,
         corners: &[
@@ -96,9 +105,9 @@ pub const FUNCTIONS: [Function; 6] = [
         name: "course_for_cpa",
         kinds: &[Direction, Speed, Direction, Distance, Direction, Speed, Distance],
         parts: 5,
-        port: |part, words| {
-            let [own_course, own_speed, bearing, range, course, speed, desired, _] = words.map(f64::from_bits);
-            port::course(part, own_course, own_speed, bearing, range, course, speed, desired)
+        port: |words| {
+            let (own, contact) = encounter(words);
+            port::course(own, contact, f64::from_bits(words[6]))
         },
         rust: calls::course,
         rust_std: kinavis_std::calls::course,
@@ -120,9 +129,9 @@ pub const FUNCTIONS: [Function; 6] = [
         name: "relative_bearing_of",
         kinds: &[Direction, Speed, Direction, Distance],
         parts: 2,
-        port: |part, words| {
+        port: |words| {
             let [own_course, own_speed, bearing, range, ..] = words.map(f64::from_bits);
-            port::bearing(part, own_course, own_speed, bearing, range)
+            port::bearing([own_course, own_speed], bearing, range)
         },
         rust: calls::bearing,
         rust_std: kinavis_std::calls::bearing,
@@ -210,7 +219,7 @@ impl Function {
     fn difference(&self, words: Words, wanted: Answer) -> Option<String> {
         let unsigned_zero = |word: u64| f64::from_bits(word) + 0.0;
         (0..self.parts).zip(wanted).find_map(|(part, wanted)| {
-            let got = (self.port)(part, words);
+            let got = (self.port)(words).part(part);
             let floats = words.map(f64::from_bits);
             (!same(unsigned_zero(got), unsigned_zero(wanted)))
                 .then(|| format!("{floats:?} ({words:x?}), part {part}: {got:016x}, wanted {wanted:016x}"))
@@ -352,13 +361,13 @@ const EACH: u64 = 120;
 /// Rust's, so that a zero has the port's sign.
 pub fn write(module: &mut Module) {
     let mut random = Random::new(13);
-    for (which, f) in FUNCTIONS.iter().enumerate() {
+    for f in &FUNCTIONS {
         for i in 0..EACH {
             let words = if i < EACH * 2 / 3 { f.adversarial(i, &mut random) } else { f.random(&mut random) };
             let wanted = f.reference(words);
             assert_eq!(f.difference(words, wanted), None);
             for part in 0..f.parts {
-                module.push(which as u64, part, words, (f.port)(part, words));
+                module.push(&(f.port)(words), part);
             }
         }
     }

@@ -15,12 +15,12 @@ macro_rules! exports {
 }
 
 exports! {
-    sqrt = elementary_sqrt(x: f64) -> f64;
-    hypot = elementary_hypot(x: f64, y: f64) -> f64;
-    sin = elementary_sin(x: f64) -> f64;
-    cos = elementary_cos(x: f64) -> f64;
-    asin = elementary_asin(x: f64) -> f64;
-    atan2 = elementary_atan2(y: f64, x: f64) -> f64;
+    sqrt = port_sqrt(x: f64) -> f64;
+    hypot = port_hypot(x: f64, y: f64) -> f64;
+    sin = port_sin(x: f64) -> f64;
+    cos = port_cos(x: f64) -> f64;
+    asin = port_asin(x: f64) -> f64;
+    atan2 = port_atan2(y: f64, x: f64) -> f64;
     trunc = port_trunc(x: f64) -> f64;
     round = port_round(x: f64) -> f64;
     ceil = port_ceil(x: f64) -> f64;
@@ -38,53 +38,179 @@ exports! {
     hours_nanos = port_hours_nanos(hours: f64) -> u32;
     hours = port_hours(secs: u64, nanos: u32) -> f64;
     is_before = port_is_before(secs: u64, nanos: u32, other_secs: u64, other_nanos: u32) -> bool;
-    cpa = motion_cpa(part: u32, own_course: f64, own_speed: f64, bearing: f64, range: f64, course: f64, speed: f64) -> u64;
-    passing = motion_passing(part: u32, own_course: f64, own_speed: f64, bearing: f64, range: f64, course: f64, speed: f64) -> u64;
-    plot = motion_plot(
-        part: u32, own_course: f64, own_speed: f64, bearing: f64, range: f64, bearing2: f64, range2: f64, secs: u64, nanos: u32
-    ) -> u64;
-    bow = motion_bow(part: u32, own_course: f64, own_speed: f64, bearing: f64, range: f64, course: f64, speed: f64) -> u64;
-    course = motion_course(
-        part: u32, own_course: f64, own_speed: f64, bearing: f64, range: f64, course: f64, speed: f64, desired: f64
-    ) -> u64;
-    bearing = motion_bearing(part: u32, own_course: f64, own_speed: f64, bearing: f64, range: f64) -> u64;
-    ruling = colregs_ruling(
-        part: u32, codes: u32, own_course: f64, own_speed: f64, own_heading: f64, bearing: f64, range: f64, course: f64, speed: f64,
-        heading: f64, wind: f64, abaft: f64, width: f64
-    ) -> u64;
-    precedence = colregs_precedence(code: u32) -> u8;
-    assess = avoidance_assess(
-        part: u32, own_course: f64, own_speed: f64, bearing: f64, range: f64, course: f64, speed: f64, limit: f64, secs: u64, nanos: u32
-    ) -> u64;
 }
 
-exports! {
-    avoid = avoidance_avoid(
-        part: u32, sides: u32, has_rate: u32, own_course: f64, own_speed: f64, bearing: f64, range: f64, course: f64, speed: f64,
-        desired: f64, least: f64, most: f64, rate: f64
-    ) -> u64;
+/// The words of an export's arguments before the contacts, and those of each contact (docs/COMPARISON.md).
+const BEFORE: usize = 20;
+const EACH: usize = 7;
+
+/// The words of one contact's arguments, and of two.
+const ONE: usize = BEFORE + EACH;
+const TWO: usize = ONE + EACH;
+
+macro_rules! words_exports {
+    ($($name:ident)*) => {
+        extern "C" { $(fn $name(part: u32, words: *const u64, len: usize) -> u64;)* }
+
+        /// The exports that take words, in the order of their numbers in the records.
+        const EXPORTS: &[fn(u32, &[u64]) -> u64] = &[
+            // SAFETY: each function is proved for every argument, reads the words alone and keeps nothing.
+            $(|part, words| unsafe { $name(part, words.as_ptr(), words.len()) }),*
+        ];
+    };
+}
+
+words_exports! {
+    port_closest_point_of_approach port_approach_distance port_target_from_plot port_bow_crossing_range port_course_for_cpa
+    port_relative_bearing_of port_rule_of_the_road port_precedence port_assess port_avoid port_search port_ruled_search port_collision_picture
+}
+
+/// A call of an export: its number in the records, and its arguments.
+#[derive(Clone)]
+pub struct Call<W> {
+    pub which: usize,
+    pub words: W,
+}
+
+impl<W: AsRef<[u64]>> Call<W> {
+    /// One word of the answer.
+    #[inline]
+    pub fn part(&self, part: u32) -> u64 {
+        EXPORTS[self.which](part, self.words.as_ref())
+    }
+}
+
+/// A call of one of the first six, which have room for a second plot, and of one of those on one contact.
+pub type Encounter = Call<[u64; TWO]>;
+pub type Contact = Call<[u64; ONE]>;
+
+/// Own course and speed, and a contact's bearing, range, course and speed.
+#[inline]
+fn encounter<const N: usize>(own: [f64; 2], contact: [f64; 4]) -> [u64; N] {
+    let mut words = [0; N];
+    for (word, x) in words.iter_mut().zip(own) {
+        *word = x.to_bits();
+    }
+    for (word, x) in words[BEFORE..].iter_mut().zip(contact) {
+        *word = x.to_bits();
+    }
+    words
+}
+
+pub fn cpa(own: [f64; 2], contact: [f64; 4]) -> Encounter {
+    Call { which: 0, words: encounter(own, contact) }
+}
+
+pub fn approach_distance(own: [f64; 2], contact: [f64; 4]) -> Encounter {
+    Call { which: 1, words: encounter(own, contact) }
+}
+
+/// Bearing and range at either plot, and the time between them.
+pub fn plot(own: [f64; 2], first: [f64; 2], second: [f64; 2], secs: u64, nanos: u32) -> Encounter {
+    let mut words: [u64; TWO] = encounter(own, [first[0], first[1], 0.0, 0.0]);
+    [words[15], words[16]] = [secs, u64::from(nanos)];
+    [words[ONE], words[ONE + 1]] = second.map(f64::to_bits);
+    Call { which: 2, words }
+}
+
+pub fn bow(own: [f64; 2], contact: [f64; 4]) -> Encounter {
+    Call { which: 3, words: encounter(own, contact) }
+}
+
+pub fn course(own: [f64; 2], contact: [f64; 4], desired: f64) -> Encounter {
+    let mut words: [u64; TWO] = encounter(own, contact);
+    words[8] = desired.to_bits();
+    Call { which: 4, words }
+}
+
+pub fn bearing(own: [f64; 2], bearing: f64, range: f64) -> Encounter {
+    Call { which: 5, words: encounter(own, [bearing, range, 0.0, 0.0]) }
+}
+
+/// A category's code, and a heading if it is known.
+pub type Kind = (u32, Option<f64>);
+
+/// Whether a direction is known, and it.
+fn optional(x: Option<f64>) -> [u64; 2] {
+    [u64::from(x.is_some()), x.unwrap_or(f64::NAN).to_bits()]
+}
+
+/// Category and heading, visibility and wind of own craft's words.
+fn set_around(words: &mut [u64], (category, heading): Kind, restricted: bool, wind: Option<f64>) {
+    words[2] = u64::from(category);
+    [words[3], words[4]] = optional(heading);
+    words[5] = u64::from(restricted);
+    [words[6], words[7]] = optional(wind);
+}
+
+pub fn ruling(own: [f64; 2], contact: [f64; 4], kinds: [Kind; 2], restricted: bool, wind: Option<f64>, widths: [f64; 2]) -> Contact {
+    let mut words: [u64; ONE] = encounter(own, contact);
+    set_around(&mut words, kinds[0], restricted, wind);
+    words[24] = u64::from(kinds[1].0);
+    [words[25], words[26]] = optional(kinds[1].1);
+    [words[17], words[18]] = widths.map(f64::to_bits);
+    Call { which: 6, words }
+}
+
+pub fn precedence(code: u32) -> Contact {
+    let mut words = [0; ONE];
+    words[2] = u64::from(code);
+    Call { which: 7, words }
+}
+
+pub fn assess(own: [f64; 2], contact: [f64; 4], limit: f64, secs: u64, nanos: u32) -> Contact {
+    let mut words: [u64; ONE] = encounter(own, contact);
+    [words[14], words[15], words[16]] = [limit.to_bits(), secs, u64::from(nanos)];
+    Call { which: 8, words }
+}
+
+/// Desired distance, least and most alteration, rate of turn, and the code of the sides.
+pub type Turn = (f64, f64, f64, Option<f64>, u32);
+
+fn set_turn(words: &mut [u64], (desired, least, most, rate, sides): Turn) {
+    [words[8], words[9], words[10]] = [desired, least, most].map(f64::to_bits);
+    [words[11], words[12]] = optional(rate);
+    words[13] = u64::from(sides);
+}
+
+pub fn avoid(own: [f64; 2], contact: [f64; 4], turn: Turn) -> Contact {
+    let mut words: [u64; ONE] = encounter(own, contact);
+    set_turn(&mut words, turn);
+    Call { which: 9, words }
+}
+
+/// Own craft's words, and those of contacts, each with a category's code and a heading.
+fn traffic(own: [f64; 2], contacts: impl Iterator<Item = ([f64; 4], Kind)>) -> Vec<u64> {
+    let mut words = encounter::<BEFORE>(own, [0.0; 4]).to_vec();
+    for (contact, (category, heading)) in contacts {
+        words.extend(contact.map(f64::to_bits));
+        words.push(u64::from(category));
+        words.extend(optional(heading));
+    }
+    words
+}
+
+pub fn search(own: [f64; 2], contacts: impl Iterator<Item = [f64; 4]>, turn: Turn) -> Call<Vec<u64>> {
+    let mut words = traffic(own, contacts.map(|contact| (contact, (0, None))));
+    set_turn(&mut words, turn);
+    Call { which: 10, words }
+}
+
+pub fn ruled(own: [f64; 2], contacts: impl Iterator<Item = ([f64; 4], Kind)>, kind: Kind, restricted: bool, wind: Option<f64>, turn: Turn) -> Call<Vec<u64>> {
+    let mut words = traffic(own, contacts);
+    set_around(&mut words, kind, restricted, wind);
+    set_turn(&mut words, turn);
+    Call { which: 11, words }
+}
+
+pub fn picture(own: [f64; 2], contacts: impl Iterator<Item = [f64; 4]>, limit: f64, secs: u64) -> Call<Vec<u64>> {
+    let mut words = traffic(own, contacts.map(|contact| (contact, (0, None))));
+    [words[14], words[15]] = [limit.to_bits(), secs];
+    Call { which: 12, words }
 }
 
 extern "C" {
     fn encounter_report(sheet: *const u8, len: usize, out: *mut u8, out_len: usize) -> usize;
-    fn avoidance_picture(part: u32, count: usize, limit: f64, secs: u64, floats: *const f64, len: usize) -> u64;
-    fn avoidance_search(part: u32, sides: u32, count: usize, floats: *const f64, len: usize) -> u64;
-    fn avoidance_ruled(part: u32, codes: u32, count: usize, floats: *const f64, len: usize) -> u64;
-}
-
-pub fn picture(part: u32, count: usize, limit: f64, secs: u64, floats: &[f64]) -> u64 {
-    // SAFETY: the function is proved for every argument, reads the floats alone and keeps nothing.
-    unsafe { avoidance_picture(part, count, limit, secs, floats.as_ptr(), floats.len()) }
-}
-
-pub fn search(part: u32, sides: u32, count: usize, floats: &[f64]) -> u64 {
-    // SAFETY: as above.
-    unsafe { avoidance_search(part, sides, count, floats.as_ptr(), floats.len()) }
-}
-
-pub fn ruled(part: u32, codes: u32, count: usize, floats: &[f64]) -> u64 {
-    // SAFETY: as above.
-    unsafe { avoidance_ruled(part, codes, count, floats.as_ptr(), floats.len()) }
 }
 
 /// The report on a sheet, written into `out`: how many bytes, or 0 where there is no room.

@@ -46,9 +46,9 @@ const STANDARD: (f64, f64) =
     (ColregsConfig::STANDARD.overtaking_abaft_beam.degrees(), ColregsConfig::STANDARD.head_on_half_width.degrees());
 
 // The codes of the categories, but for a power-driven vessel's, which is 0.
-const PORT_TACK: u32 = 1;
-const STARBOARD_TACK: u32 = 2;
-const TACK_UNKNOWN: u32 = 3;
+const TACK_UNKNOWN: u32 = 1;
+const PORT_TACK: u32 = 2;
+const STARBOARD_TACK: u32 = 3;
 const FISHING: u32 = 4;
 const BY_DRAUGHT: u32 = 5;
 const RESTRICTED_IN_ABILITY: u32 = 6;
@@ -187,10 +187,16 @@ impl Case {
         self.floats.map(f64::to_bits)
     }
 
-    pub fn port(&self, part: u32) -> u64 {
+    fn call(&self) -> port::Contact {
         let [own_course, own_speed, own_heading, bearing, range, course, speed, heading, wind, abaft, width] = self.floats;
-        let codes = self.codes;
-        port::ruling(part, codes, own_course, own_speed, own_heading, bearing, range, course, speed, heading, wind, abaft, width)
+        let given = |code: u32, x: f64| self.is_given(code).then_some(x);
+        let kinds = [(self.codes & 7, given(OWN_HEADING, own_heading)), (self.codes >> 3 & 7, given(HEADING, heading))];
+        let contact = [bearing, range, course, speed];
+        port::ruling([own_course, own_speed], contact, kinds, self.is_given(RESTRICTED), given(WIND, wind), [abaft, width])
+    }
+
+    pub fn port(&self, part: u32) -> u64 {
+        self.call().part(part)
     }
 
     fn is_given(&self, code: u32) -> bool {
@@ -435,7 +441,7 @@ fn compare_stated() -> bool {
 /// `count` random ones; and counts what occurs.
 pub fn compare(count: u64) -> bool {
     let mut good = run("precedence", CATEGORIES.len() as u64, |code, _| {
-        let (got, wanted) = (port::precedence(code as u32), CATEGORIES[code as usize].precedence());
+        let (got, wanted) = (port::precedence(code as u32).part(1) as u8, CATEGORIES[code as usize].precedence());
         (got != wanted).then(|| format!("{code}: {got}, wanted {wanted}"))
     });
     good &= compare_stated();
@@ -455,10 +461,6 @@ pub fn compare(count: u64) -> bool {
     good
 }
 
-/// The functions' numbers in the records.
-const RULING: u64 = 6;
-const PRECEDENCE: u64 = 7;
-
 /// Writes the records and answers that `module_main` replays in the gate: 300 situations with every part of their answers, and the
 /// categories.
 pub fn write(module: &mut Module) {
@@ -471,11 +473,12 @@ pub fn write(module: &mut Module) {
         };
         let wanted = case.reference();
         assert_eq!(case.difference(wanted), None);
-        for (part, answer) in (0..PARTS).zip(wanted) {
-            module.push(RULING, part, [u64::from(case.codes)].into_iter().chain(case.words()), answer);
+        for part in 0..PARTS {
+            module.push(&case.call(), part);
         }
     }
     for (code, category) in (0..).zip(CATEGORIES) {
-        module.push(PRECEDENCE, 0, [code], u64::from(category.precedence()));
+        assert_eq!(port::precedence(code).part(1), u64::from(category.precedence()));
+        module.push(&port::precedence(code), 1);
     }
 }

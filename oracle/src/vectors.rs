@@ -4,6 +4,7 @@ use std::fs;
 use std::iter::repeat;
 use std::path::Path;
 
+use crate::port::Call;
 use crate::angle::{wrap180, wrap360};
 use crate::arcs::{arcsine_input, arctangent_input};
 use crate::avoidance;
@@ -142,11 +143,12 @@ pub struct Module {
 }
 
 impl Module {
-    /// Adds a record of sixteen words.
-    pub fn push(&mut self, which: u64, part: u32, arguments: impl IntoIterator<Item = u64>, answer: u64) {
-        let words = [which, u64::from(part)].into_iter().chain(arguments).chain(repeat(0));
-        self.records.extend(words.take(16));
-        self.answers.push(answer);
+    /// Adds a record of 37 words, and the answer.
+    pub fn push<W: AsRef<[u64]>>(&mut self, call: &Call<W>, part: u32) {
+        let words = call.words.as_ref();
+        let record = [call.which as u64, u64::from(part), words.len() as u64].into_iter().chain(words.iter().copied());
+        self.records.extend(record.chain(repeat(0)).take(37));
+        self.answers.push(call.part(part));
     }
 }
 

@@ -1,2 +1,4 @@
--- What the code of the assessment owes.
-pub mod Assessed
+-- Laws, and what code owes.
+pub mod AssessCode
+pub mod PictureCode
+pub mod RiskCode

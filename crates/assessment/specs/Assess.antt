@@ -1,6 +1,6 @@
 -- The assessment of one contact (assessment.rs, `assess`), operation by operation.
 use Rattle.std.specs.Prelude.{◌++◌, ℕ, None, Some, Err, Ok}
-use Rattle.root.specs.Hypot.{hypot}
+use Rattle.roots.specs.Hypot.{hypot}
 use Rattle.elementary.specs.Refusal.{number_of}
 use Rattle.motion.specs.declared.vessel.Vessel.{Vessel}
 use Rattle.motion.specs.declared.vessel.Contact.{Contact}
@@ -11,14 +11,14 @@ use Rattle.elementary.specs.declared.error.Refusal.{Refusal}
 use Rattle.motion.specs.declared.units.Direction.{Direction}
 use Rattle.motion.specs.declared.units.Distance.{Distance}
 use Rattle.relative_motion.specs.declared.approach.Cpa.{Cpa}
-use Rattle.time.specs.declared.Duration.{Duration}
-use Rattle.arguments.specs.Check.{verdict, encounter_checks}
+use Rattle.math.specs.declared.duration.Duration.{Duration}
+use Rattle.motion.specs.Check.{verdict, encounter_checks}
 use Rattle.relative_motion.specs.Approach.{approach_from}
-use Rattle.bow.specs.Bow.{crossing}
-use Rattle.policy.specs.declared.CpaPolicy.{CpaPolicy}
+use Rattle.relative_motion.specs.Bow.{crossing}
+use Rattle.assessment.specs.declared.policy.CpaPolicy.{CpaPolicy}
 use Rattle.assessment.specs.declared.assess.CollisionAssessment.{CollisionAssessment}
-use Rattle.policy.specs.Policy.{policy_checks}
-use Rattle.risk.specs.Risk.{drift_of, nearest, ahead_of, risk_of}
+use Rattle.assessment.specs.Policy.{policy_checks}
+use Rattle.assessment.specs.Risk.{drift_of, nearest, ahead_of, risk_of}
 
 unfoldable pub assessment : Vessel → Contact → Vessel → CpaPolicy → CollisionAssessment
 assessment own contact target policy =
@@ -36,25 +36,25 @@ assessment own contact target policy =
     }
 
 -- own, contact, target, policy
-abbrev pub assess_by : Result (Unit {0}) Refusal → CollisionAssessment → Result CollisionAssessment Refusal
-assess_by (Ok tt) a = Ok a
-assess_by (Err why) a = Err why
+abbrev pub assess_if_accepted : Result (Unit {0}) Refusal → CollisionAssessment → Result CollisionAssessment Refusal
+assess_if_accepted (Ok tt) a = Ok a
+assess_if_accepted (Err why) a = Err why
 
 unfoldable pub assess_answer : Vessel → Contact → Vessel → CpaPolicy → Result CollisionAssessment Refusal
-assess_answer own contact target policy = assess_by (verdict (encounter_checks own contact target ++ policy_checks policy) (Ok tt)) (assessment own contact target policy)
+assess_answer own contact target policy = assess_if_accepted (verdict (encounter_checks own contact target ++ policy_checks policy) (Ok tt)) (assessment own contact target policy)
 
 -- ---- what an assessment says of the closest approach
-abbrev pub distance_in : Option Cpa → Option Distance
-distance_in None = None
-distance_in (Some cpa) = Some cpa.distance
+abbrev pub cpa_distance : Option Cpa → Option Distance
+cpa_distance None = None
+cpa_distance (Some cpa) = Some cpa.distance
 
-abbrev pub time_in : Option Cpa → Option Duration
-time_in None = None
-time_in (Some cpa) = Some cpa.time_to_go
+abbrev pub tcpa : Option Cpa → Option Duration
+tcpa None = None
+tcpa (Some cpa) = Some cpa.time_to_go
 
-abbrev pub bearing_in : Option Cpa → Option Direction
-bearing_in None = None
-bearing_in (Some cpa) = Some cpa.bearing
+abbrev pub bearing_at_cpa : Option Cpa → Option Direction
+bearing_at_cpa None = None
+bearing_at_cpa (Some cpa) = Some cpa.bearing
 
 -- document 01's number of an answer, 0 where it is answered
 abbrev pub assess_number : Result CollisionAssessment Refusal → ℕ

@@ -1,2 +1,6 @@
--- The collision assessment.
+-- assessment.rs: limits, risk, the assessment of one contact, the collision picture.
 pub mod Assess
+pub mod Picture
+pub mod Policy
+pub mod Risk
+pub mod Target

@@ -2,14 +2,14 @@
 ghost use Rattle.std.specs.Prelude.{◌≡◌};
 ghost use Rattle.assessment.specs.Assess as Spec;
 
+use crate::policy::CpaPolicy;
+use crate::risk::CollisionRisk;
 use elementary::error::Refusal;
+use math::duration::Duration;
 use motion::units::{Direction, Distance, RateOfTurn, Speed};
 use motion::vessel;
 use motion::vessel::{Contact, Vessel};
-use policy::CpaPolicy;
 use relative_motion::approach::{Cpa, Relative};
-use risk::CollisionRisk;
-use time::Duration;
 
 #[derive(Clone, Copy, Default)]
 pub struct CollisionAssessment {
@@ -29,17 +29,17 @@ fn assessed(own: Vessel, contact: Contact, target: Vessel, policy: CpaPolicy) ->
     ensures { result ≡ Spec.assessment own contact target policy }
 {
     let seen = Relative::of(own, contact, target);
-    let ahead = bow::crossing(seen, vessel::unit(own.course.0));
-    let cpa = risk::nearest(seen.approach());
+    let ahead = relative_motion::bow_crossing::crossing(seen, vessel::unit(own.course.0));
+    let cpa = crate::risk::nearest(seen.approach());
     CollisionAssessment {
         range: contact.range,
         bearing: contact.bearing,
         relative_course: vessel::direction_of(seen.velocity),
         relative_speed: Speed(seen.velocity.size()),
-        bearing_drift: risk::drift_of(seen),
+        bearing_drift: crate::risk::drift_of(seen),
         cpa,
-        bow_crossing: risk::ahead_of(ahead),
-        risk: risk::risk_of(policy, cpa),
+        bow_crossing: crate::risk::ahead_of(ahead),
+        risk: crate::risk::risk_of(policy, cpa),
     }
 }
 
@@ -52,8 +52,8 @@ pub fn assess(
 ) -> Result<CollisionAssessment, Refusal>
     ensures { result ≡ Spec.assess_answer own contact target policy }
 {
-    arguments::check_encounter(own, contact, target)?;
-    policy::check_policy(policy)?;
+    motion::argument::check_encounter(own, contact, target)?;
+    crate::policy::check_policy(policy)?;
     Ok(assessed(own, contact, target, policy))
 }
 
@@ -102,21 +102,21 @@ impl CollisionAssessment {
 
     // The distance of the closest approach, where the range closes.
     pub fn cpa_distance(self) -> Option<Distance>
-        ensures { result ≡ Spec.distance_in self.cpa }
+        ensures { result ≡ Spec.cpa_distance self.cpa }
     {
         self.cpa.map(|cpa| cpa.distance)
     }
 
     // The time to the closest approach, where the range closes.
     pub fn tcpa(self) -> Option<Duration>
-        ensures { result ≡ Spec.time_in self.cpa }
+        ensures { result ≡ Spec.tcpa self.cpa }
     {
         self.cpa.map(|cpa| cpa.time_to_go)
     }
 
     // The true bearing at the closest approach, where the range closes.
     pub fn bearing_at_cpa(self) -> Option<Direction>
-        ensures { result ≡ Spec.bearing_in self.cpa }
+        ensures { result ≡ Spec.bearing_at_cpa self.cpa }
     {
         self.cpa.map(|cpa| cpa.bearing)
     }

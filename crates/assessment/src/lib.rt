@@ -1,5 +1,8 @@
-// The collision assessment of one contact: closest approach, bearing rate, bow crossing and risk, against the vessel's limits. The
-// port of assessment.rs; the definitions in specs/ follow it operation by operation.
+// assessment.rs: limits, risk, the assessment of one contact, the collision picture.
 #![tactic(auto)]
 
 pub mod assess;
+pub mod picture;
+pub mod policy;
+pub mod risk;
+pub mod target;

@@ -4,10 +4,10 @@ use Rattle.std.specs.Float.{binary64}
 use Rattle.std.specs.Float.Ieee.{lt, le, of_bits}
 use Rattle.laws.specs.Ops.{◌⊕◌}
 use Rattle.math.specs.Sign.{abs}
-use Rattle.angle.specs.Fold.{zero}
+use Rattle.math.specs.Fold.{zero}
 use Rattle.std.specs.declared.result.Result.{Result}
 use Rattle.elementary.specs.declared.error.Refusal.{Refusal}
-use Rattle.arguments.specs.Check.{verdict}
+use Rattle.motion.specs.Check.{verdict}
 use Rattle.situation.specs.declared.party.Tack.{Tack}
 use Rattle.situation.specs.declared.party.VesselCategory.{VesselCategory}
 use Rattle.situation.specs.declared.party.VesselCategory.TheVariants.{PowerDriven, Sailing, Fishing, ConstrainedByDraught, RestrictedInAbilityToManoeuvre, NotUnderCommand}
@@ -15,8 +15,8 @@ use Rattle.situation.specs.declared.party.Visibility.{Visibility}
 use Rattle.situation.specs.declared.party.Visibility.TheVariants.{InSight, Restricted}
 use Rattle.situation.specs.declared.party.Situation.{Situation}
 use Rattle.situation.specs.declared.config.ColregsConfig.{ColregsConfig}
-use Rattle.facts.specs.declared.Windward.{Windward}
-use Rattle.facts.specs.declared.Facts.{Facts}
+use Rattle.colregs.specs.declared.geometry.Windward.{Windward}
+use Rattle.colregs.specs.declared.geometry.Geometry.{Geometry}
 use Rattle.motion.specs.declared.side.Side.{Side}
 use Rattle.colregs.specs.declared.answer.Encounter.{Encounter}
 use Rattle.colregs.specs.declared.answer.Encounter.TheVariants.{Overtaking, BeingOvertaken, HeadOn, Crossing}
@@ -28,7 +28,7 @@ use Rattle.colregs.specs.declared.answer.PermittedManoeuvre.{PermittedManoeuvre}
 use Rattle.colregs.specs.declared.answer.Ruling.{Ruling}
 use Rattle.colregs.specs.declared.answer.Decision.{Decision}
 use Rattle.situation.specs.Arguments.{quarter_turn, situation_checks, config_checks}
-use Rattle.facts.specs.Facts.{facts_of}
+use Rattle.colregs.specs.Geometry.{geometry_of}
 
 -- What a rule says of own craft's duty: nothing, where it does not apply.
 pub data Says : Type 0 where
@@ -44,17 +44,17 @@ dead_ahead = of_bits binary64 0x3e11_2e0b_e826_d695
 unfoldable pub abaft : ColregsConfig → Float → Bool
 abaft config angle = lt (quarter_turn ⊕ config.overtaking_abaft_beam.0) (abs angle)
 
-unfoldable pub own_comes_up : ColregsConfig → Facts → Bool
+unfoldable pub own_comes_up : ColregsConfig → Geometry → Bool
 own_comes_up config f = f.closing && abaft config f.aspect
 
-unfoldable pub target_comes_up : ColregsConfig → Facts → Bool
+unfoldable pub target_comes_up : ColregsConfig → Geometry → Bool
 target_comes_up config f = f.closing && abaft config f.relative
 
 -- where each comes up from astern of the other, the faster one overtakes; at equal speeds the asker is overtaken
-unfoldable pub own_overtakes : ColregsConfig → Facts → Bool
+unfoldable pub own_overtakes : ColregsConfig → Geometry → Bool
 own_overtakes config f = own_comes_up config f && (not (target_comes_up config f) || lt f.target_speed.0 f.own_speed.0)
 
-unfoldable pub target_overtakes : ColregsConfig → Facts → Bool
+unfoldable pub target_overtakes : ColregsConfig → Geometry → Bool
 target_overtakes config f = target_comes_up config f && not (own_overtakes config f)
 
 -- (a) the overtaking vessel keeps out of the way of the one overtaken
@@ -66,7 +66,7 @@ rule13 (Crossing side) = silent
 
 -- ---- Rule 14, head_on
 -- (b) each sees the other ahead or nearly ahead: within the half-width, the limits included
-unfoldable pub is_head_on : ColregsConfig → Facts → Bool
+unfoldable pub is_head_on : ColregsConfig → Geometry → Bool
 is_head_on config f = le (abs f.relative) config.head_on_half_width.0 && le (abs f.aspect) config.head_on_half_width.0
 
 -- (a) each alters to starboard. Of two vessels that Rules 12 and 18 leave (departs: the rule speaks of power-driven ones alone)
@@ -78,7 +78,7 @@ rule14 (Crossing side) = silent
 
 -- ---- Rule 15, crossing
 -- the side on which own craft has the other; dead ahead she is on neither, and the side on which she has own craft decides
-unfoldable pub side_of : Facts → Side
+unfoldable pub side_of : Geometry → Side
 side_of f = cond (cond (lt (abs f.relative) dead_ahead) (lt f.aspect zero) (lt zero f.relative)) Side.Starboard Side.Port
 
 -- the vessel that has the other on her own starboard side keeps out of the way
@@ -160,31 +160,31 @@ rule18 own target = cond (keeps_clear own target) (says GiveWay) (cond (keeps_cl
 
 -- ---- Rule 12, two sailing vessels
 -- (a)(ii) the wind on the same side: the windward one keeps out of the way
-abbrev pub by_windward : Windward → Responsibility
-by_windward Windward.Own = GiveWay
-by_windward Windward.Target = StandOn
-by_windward Windward.Unknown = Undetermined
+abbrev pub windward_gives_way : Windward → Responsibility
+windward_gives_way Windward.Own = GiveWay
+windward_gives_way Windward.Target = StandOn
+windward_gives_way Windward.Unknown = Undetermined
 
 -- (a)(i) the wind on different sides: the one with the wind on her port side keeps out of the way; (a)(iii) the other's tack unknown (departs: undetermined, whatever own tack is and whoever is to windward)
-abbrev pub by_tacks : Tack → Tack → Windward → Responsibility
-by_tacks Tack.Port Tack.Starboard w = GiveWay
-by_tacks Tack.Starboard Tack.Port w = StandOn
-by_tacks Tack.Port Tack.Port w = by_windward w
-by_tacks Tack.Starboard Tack.Starboard w = by_windward w
-by_tacks Tack.Port Tack.Unknown w = Undetermined
-by_tacks Tack.Starboard Tack.Unknown w = Undetermined
-by_tacks Tack.Unknown target w = Undetermined
+abbrev pub sailing_vessels : Tack → Tack → Windward → Responsibility
+sailing_vessels Tack.Port Tack.Starboard w = GiveWay
+sailing_vessels Tack.Starboard Tack.Port w = StandOn
+sailing_vessels Tack.Port Tack.Port w = windward_gives_way w
+sailing_vessels Tack.Starboard Tack.Starboard w = windward_gives_way w
+sailing_vessels Tack.Port Tack.Unknown w = Undetermined
+sailing_vessels Tack.Starboard Tack.Unknown w = Undetermined
+sailing_vessels Tack.Unknown target w = Undetermined
 
-abbrev pub sailing_on : Tack → VesselCategory → Windward → Says
-sailing_on own (Sailing target) w = says (by_tacks own target w)
-sailing_on own PowerDriven w = silent
-sailing_on own Fishing w = silent
-sailing_on own ConstrainedByDraught w = silent
-sailing_on own RestrictedInAbilityToManoeuvre w = silent
-sailing_on own NotUnderCommand w = silent
+abbrev pub rule12_sailing : Tack → VesselCategory → Windward → Says
+rule12_sailing own (Sailing target) w = says (sailing_vessels own target w)
+rule12_sailing own PowerDriven w = silent
+rule12_sailing own Fishing w = silent
+rule12_sailing own ConstrainedByDraught w = silent
+rule12_sailing own RestrictedInAbilityToManoeuvre w = silent
+rule12_sailing own NotUnderCommand w = silent
 
 abbrev pub rule12 : VesselCategory → VesselCategory → Windward → Says
-rule12 (Sailing own) target w = sailing_on own target w
+rule12 (Sailing own) target w = rule12_sailing own target w
 rule12 PowerDriven target w = silent
 rule12 Fishing target w = silent
 rule12 ConstrainedByDraught target w = silent
@@ -197,7 +197,7 @@ rule19 Restricted = says Both
 rule19 InSight = silent
 
 -- ---- the kind of encounter
-unfoldable pub encounter_of : ColregsConfig → Facts → Encounter
+unfoldable pub encounter_of : ColregsConfig → Geometry → Encounter
 encounter_of config f = cond (own_overtakes config f) Overtaking (cond (target_overtakes config f) BeingOvertaken (cond (is_head_on config f) HeadOn (Crossing (side_of f))))
 
 -- ---- the order: Rule 19 where vessels are not in sight of one another; else Rule 13 'notwithstanding' the others, then 18, and between vessels of one rank 12, 14, 15 and 17. The first that speaks decides.
@@ -208,26 +208,26 @@ pub record Clause : Type 0 where
 abbrev pub clause : Rule → Says → Clause
 clause number text = record { number = number; text = text }
 
-abbrev pub by_says : Says → Rule → Decision → Decision
-by_says silent number rest = rest
-by_says (says duty) number rest = record { responsibility = duty; rule = number }
+abbrev pub unless_silent : Says → Rule → Decision → Decision
+unless_silent silent number rest = rest
+unless_silent (says duty) number rest = record { responsibility = duty; rule = number }
 
 -- the end of the list is never reached (`the_rules_decide`)
 unfoldable pub decided : List Clause → Decision
 decided [] = record { responsibility = Undetermined; rule = Rule13 }
-decided (c ∷ cs) = by_says c.text c.number (decided cs)
+decided (c ∷ cs) = unless_silent c.text c.number (decided cs)
 
 -- between vessels of one rank, neither overtaking
-abbrev pub by_geometry : Encounter → List Clause
-by_geometry e = clause Rule14 (rule14 e) ∷ clause Rule15 (rule15 e) ∷ clause Rule17 (rule17 e) ∷ []
+abbrev pub one_rank : Encounter → List Clause
+one_rank e = clause Rule14 (rule14 e) ∷ clause Rule15 (rule15 e) ∷ clause Rule17 (rule17 e) ∷ []
 
-abbrev pub by_rank : Encounter → VesselCategory → VesselCategory → Windward → List Clause
-by_rank e own target w = clause Rule18 (rule18 own target) ∷ clause Rule12 (rule12 own target w) ∷ by_geometry e
+abbrev pub ranks_first : Encounter → VesselCategory → VesselCategory → Windward → List Clause
+ranks_first e own target w = clause Rule18 (rule18 own target) ∷ clause Rule12 (rule12 own target w) ∷ one_rank e
 
-abbrev pub clauses_in_sight : Encounter → Facts → List Clause
-clauses_in_sight e f = clause Rule13 (rule13 e) ∷ by_rank e f.own f.target f.windward
+abbrev pub clauses_in_sight : Encounter → Geometry → List Clause
+clauses_in_sight e f = clause Rule13 (rule13 e) ∷ ranks_first e f.own f.target f.windward
 
-abbrev pub clauses : Encounter → Facts → List Clause
+abbrev pub clauses : Encounter → Geometry → List Clause
 clauses e f = clause Rule19 (rule19 f.visibility) ∷ clauses_in_sight e f
 
 -- ---- what is permitted
@@ -258,50 +258,50 @@ abbrev pub to_starboard : Float → Bool
 to_starboard relative = le zero relative
 
 -- Rule 19(d) (departs: 'so far as possible'): (i) not to port for a vessel forward of the beam, other than one being overtaken; (ii) not towards a vessel abeam or abaft the beam
-unfoldable pub starboard_by19 : Float → Bool
-starboard_by19 relative = forward_of_beam relative || not (to_starboard relative)
+unfoldable pub rule19_starboard : Float → Bool
+rule19_starboard relative = forward_of_beam relative || not (to_starboard relative)
 
-unfoldable pub port_by19 : Encounter → Float → Bool
-port_by19 e relative = cond (forward_of_beam relative) (is_overtaking e) (to_starboard relative)
+unfoldable pub rule19_port : Encounter → Float → Bool
+rule19_port e relative = cond (forward_of_beam relative) (is_overtaking e) (to_starboard relative)
 
 -- Rule 17(c): a vessel that stands on in a crossing does not alter to port (departs: the rule speaks of power-driven vessels, and of one on the port side)
-unfoldable pub port_by17 : Encounter → Responsibility → Bool
-port_by17 e duty = not (is_stand_on duty && is_crossing e)
+unfoldable pub rule17_port : Encounter → Responsibility → Bool
+rule17_port e duty = not (is_stand_on duty && is_crossing e)
 
-abbrev pub starboard_by : Rule → Float → Bool
-starboard_by Rule12 relative = true
-starboard_by Rule13 relative = true
-starboard_by Rule14 relative = true
-starboard_by Rule15 relative = true
-starboard_by Rule17 relative = true
-starboard_by Rule18 relative = true
-starboard_by Rule19 relative = starboard_by19 relative
+abbrev pub permits_starboard : Rule → Float → Bool
+permits_starboard Rule12 relative = true
+permits_starboard Rule13 relative = true
+permits_starboard Rule14 relative = true
+permits_starboard Rule15 relative = true
+permits_starboard Rule17 relative = true
+permits_starboard Rule18 relative = true
+permits_starboard Rule19 relative = rule19_starboard relative
 
 -- Rule 14(a): each alters to starboard; Rule 15: avoids crossing ahead, hence not to port
-abbrev pub port_by : Rule → Encounter → Responsibility → Float → Bool
-port_by Rule14 e duty relative = false
-port_by Rule15 e duty relative = false
-port_by Rule19 e duty relative = port_by19 e relative
-port_by Rule12 e duty relative = port_by17 e duty
-port_by Rule13 e duty relative = port_by17 e duty
-port_by Rule17 e duty relative = port_by17 e duty
-port_by Rule18 e duty relative = port_by17 e duty
+abbrev pub permits_port : Rule → Encounter → Responsibility → Float → Bool
+permits_port Rule14 e duty relative = false
+permits_port Rule15 e duty relative = false
+permits_port Rule19 e duty relative = rule19_port e relative
+permits_port Rule12 e duty relative = rule17_port e duty
+permits_port Rule13 e duty relative = rule17_port e duty
+permits_port Rule17 e duty relative = rule17_port e duty
+permits_port Rule18 e duty relative = rule17_port e duty
 
 -- every vessel may slow down; Rule 17(a)(i): the one that stands on may hold
 unfoldable pub permitted : Encounter → Decision → Float → PermittedManoeuvre
-permitted e d relative = record { starboard = starboard_by d.rule relative; port = port_by d.rule e d.responsibility relative; slow_down = true; hold = is_stand_on d.responsibility }
+permitted e d relative = record { starboard = permits_starboard d.rule relative; port = permits_port d.rule e d.responsibility relative; slow_down = true; hold = is_stand_on d.responsibility }
 
 -- ---- the ruling
 unfoldable pub ruling_for : Encounter → Decision → Float → Ruling
 ruling_for e d relative = record { encounter = e; responsibility = d.responsibility; rule = d.rule; manoeuvre = permitted e d relative }
 
-unfoldable pub ruling_of : ColregsConfig → Facts → Ruling
+unfoldable pub ruling_of : ColregsConfig → Geometry → Ruling
 ruling_of config f = let e = encounter_of config f in ruling_for e (decided (clauses e f)) f.relative
 
 -- ---- the answer, by the verdict on the arguments
-abbrev pub ruling_by : Result (Unit {0}) Refusal → Ruling → Result Ruling Refusal
-ruling_by (Ok tt) r = Ok r
-ruling_by (Err why) r = Err why
+abbrev pub ruling_if_accepted : Result (Unit {0}) Refusal → Ruling → Result Ruling Refusal
+ruling_if_accepted (Ok tt) r = Ok r
+ruling_if_accepted (Err why) r = Err why
 
 unfoldable pub ruling_answer : Situation → ColregsConfig → Result Ruling Refusal
-ruling_answer s config = ruling_by (verdict (situation_checks s ++ config_checks config) (Ok tt)) (ruling_of config (facts_of s))
+ruling_answer s config = ruling_if_accepted (verdict (situation_checks s ++ config_checks config) (Ok tt)) (ruling_of config (geometry_of s))

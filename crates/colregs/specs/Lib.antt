@@ -1,3 +1,7 @@
--- The rules, and what a ruling says.
+-- COLREGs Rules 12 to 19, after rules.rs: the geometry of a situation, the encounter, who keeps out of the way, what is permitted.
 pub mod Colregs
+pub mod Geometry
+pub mod Log
 pub mod Ruling
+pub mod Said
+pub mod Settled

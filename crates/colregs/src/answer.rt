@@ -33,7 +33,7 @@ pub enum Rule {
 
 // Own craft's duty, and the rule that decides it.
 #[derive(Clone, Copy)]
-pub struct Decision {
+pub(crate) struct Decision {
     pub responsibility: Responsibility,
     pub rule: Rule,
 }

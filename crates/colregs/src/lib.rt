@@ -1,6 +1,8 @@
-// COLREGs Rules 12 to 19: what a ruling says, and the kind of an encounter. specs/Colregs.antt has the rules, one definition each, and the order
-// in which they apply; the crates `duties` and `ruling` apply them.
+// COLREGs Rules 12 to 19, after rules.rs: the geometry of a situation, the encounter, who keeps out of the way, what is permitted.
 #![tactic(auto)]
 
 pub mod answer;
 pub mod encounter;
+pub mod geometry;
+pub mod responsibility;
+pub mod rules;

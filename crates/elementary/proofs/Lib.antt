@@ -1,2 +1,3 @@
--- Laws on refusals.
+-- Laws, and what code owes.
+pub mod CheckedCode
 pub mod Listed

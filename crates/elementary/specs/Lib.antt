@@ -1,3 +1,4 @@
--- Refusals and ranges.
+-- The refusals, and the six elementary functions in refusing form.
+pub mod Checked
 pub mod Range
 pub mod Refusal

@@ -1,4 +1,5 @@
-// The refusals of document 01, and its range check.
+// The refusals, and the six elementary functions in refusing form.
 #![tactic(auto)]
 
+pub mod checked;
 pub mod error;

@@ -5,11 +5,15 @@
 #![tactic(auto)]
 
 use elementary::error::Refusal;
+use math::duration::{Duration, TimeError};
 use replay::{Replayed, float, low_half, word};
 use std::io;
-use std::num::f64_from_bits_with_nan;
-use time::{Duration, TimeError};
-use words::pattern;
+use std::num::{f64_from_bits_with_nan, f64_to_bits_with_nan};
+
+// The bit pattern of a float, one and the same for every NaN.
+fn pattern(x: f64) -> u64 {
+    f64_to_bits_with_nan(x)
+}
 
 fn pattern_in(r: Result<f64, Refusal>) -> u64 {
     r.map_or_else(|why| why.number() as u64, pattern)
@@ -35,23 +39,23 @@ fn duration(secs: u64, nanos: u64) -> Duration {
 // some two, so that a table would hold a closure around each of the first.
 fn number(which: u64, x: f64, y: f64) -> f64 {
     match which {
-        0 => root::sqrt(x),
-        1 => root::hypot(x, y),
+        0 => roots::sqrt(x),
+        1 => roots::hypot(x, y),
         2 => math::abs(x),
         3 => math::copysign(x, y),
-        4 => rounding::trunc(x),
-        5 => rounding::round(x),
-        6 => rounding::ceil(x),
+        4 => math::rounding::trunc(x),
+        5 => math::rounding::round(x),
+        6 => math::rounding::ceil(x),
         7 => math::to_radians(x),
         8 => math::to_degrees(x),
-        9 => angle::wrap360(x),
-        10 => angle::wrap180(x),
-        11 => angle::reciprocal(x),
-        12 => angle::from_degrees_wrapped(x),
-        13 => circular::sin(x),
-        14 => circular::cos(x),
-        15 => inverse::asin(x),
-        _ => inverse::atan2(x, y),
+        9 => math::angle::wrap360(x),
+        10 => math::angle::wrap180(x),
+        11 => math::angle::reciprocal(x),
+        12 => math::angle::from_degrees_wrapped(x),
+        13 => trigonometry::sin(x),
+        14 => trigonometry::cos(x),
+        15 => inverse_trigonometry::arctangent::asin(x),
+        _ => inverse_trigonometry::arctangent::atan2(x, y),
     }
 }
 
@@ -60,24 +64,24 @@ fn other(which: u64, a: u64, b: u64) -> u64 {
     let x = f64_from_bits_with_nan(a);
     let y = f64_from_bits_with_nan(b);
     match which {
-        20 => u64::from(rounding::is_integral(x)),
+        20 => u64::from(math::rounding::is_integral(x)),
         21 => u64::from(math::is_effectively_zero(x, y)),
-        22 => pattern(rounding::round_to_i32(x) as f64),
+        22 => pattern(math::rounding::round_to_i32(x) as f64),
         23 => math::to_usize(x) as u64,
         24 => pattern(math::count_to_f64(a as usize)),
         25 => u64::from(elementary::error::ensure_range(x, 0.0, y)),
-        26 => pattern_in(domains::hypot(x, y)),
-        27 => part_in(time::duration_from_secs(x).map(|d| d.secs)),
-        28 => part_in(time::duration_from_secs(x).map(|d| d.nanos as u64)),
-        29 => part_in(time::duration_from_hours(x).map(|d| d.secs)),
-        30 => part_in(time::duration_from_hours(x).map(|d| d.nanos as u64)),
+        26 => pattern_in(elementary::checked::hypot(x, y)),
+        27 => part_in(math::duration::duration_from_secs(x).map(|d| d.secs)),
+        28 => part_in(math::duration::duration_from_secs(x).map(|d| d.nanos as u64)),
+        29 => part_in(math::duration::duration_from_hours(x).map(|d| d.secs)),
+        30 => part_in(math::duration::duration_from_hours(x).map(|d| d.nanos as u64)),
         31 => pattern(duration(a, b).hours()),
         32 => u64::from(duration(a, 1).is_before(duration(b, 2))),
         33 => u64::from(duration(a, b).is_accepted()),
-        34 => pattern_in(domains::sin(x)),
-        35 => pattern_in(domains::cos(x)),
-        36 => pattern_in(domains::asin(x)),
-        37 => pattern_in(domains::atan2(x, y)),
+        34 => pattern_in(elementary::checked::sin(x)),
+        35 => pattern_in(elementary::checked::cos(x)),
+        36 => pattern_in(elementary::checked::asin(x)),
+        37 => pattern_in(elementary::checked::atan2(x, y)),
         _ => u64::from(math::is_finite(x)),
     }
 }

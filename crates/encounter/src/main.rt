@@ -6,15 +6,15 @@
 ghost use Rattle.std.specs.Prelude.{◌≡◌, ◌+◌, IfSome, OnOk, IsErrOf, take};
 ghost use Rattle.std.specs.Io.KnownBytes.{Appends};
 ghost use Rattle.std.specs.declared.io.Error.{Error};
-ghost use Rattle.sheet_words.specs.Word.{max_bytes};
+ghost use Rattle.sheet_record.specs.Word.{max_bytes};
 ghost use Rattle.report.specs.Report.{report};
 
-use sheet_io::{print_report, read_full};
+use report::stream::{print_report, read_full};
 use std::io::{self, Read, Write};
 use thiserror::Error;
 
 // Room for the largest sheet and one byte more.
-const ROOM: usize = sheet_words::MAX_BYTES + 1;
+const ROOM: usize = sheet_record::word::MAX_BYTES + 1;
 
 // Which of the program's streams failed, and how.
 #[derive(Debug, Drop, Error)]

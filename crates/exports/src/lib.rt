@@ -1,81 +1,219 @@
-// C exports of the leaf functions, for the comparison with Rust. Each passes its arguments on, and its contract is that of
-// the function that it exports.
+// C exports of the module's functions, for the comparison with the Rust (docs/COMPARISON.md). Each takes its arguments as one list of words
+// (specs/Arguments.antt) and answers one word, the one of the place `part` of the answer (specs/Answers.antt). The arguments are checked in
+// document 01's order, limits and constraints too (specs/Asked.antt).
 #![tactic(auto)]
 
+mod answers;
+mod arguments;
+mod picture;
+
 ghost use Rattle.std.specs.Prelude.{◌≡◌};
-ghost use Rattle.math.specs.Cast as Cast;
-ghost use Rattle.rounding.specs.Cast as Rounded;
-ghost use Rattle.math.specs.Convert as Convert;
-ghost use Rattle.math.specs.Test as Test;
-ghost use Rattle.rounding.specs.Whole as Whole;
-ghost use Rattle.angle.specs.Fold as Fold;
+ghost use Rattle.relative_motion.specs.Approach as Approach;
+ghost use Rattle.relative_motion.specs.Bow as Bow;
+ghost use Rattle.relative_motion.specs.Plot as Plot;
+ghost use Rattle.relative_motion.specs.Course as Course;
+ghost use Rattle.situation.specs.Situation as Situation;
+ghost use Rattle.colregs.specs.Colregs as Colregs;
+ghost use Rattle.exports.specs.Answers as Answer;
+ghost use Rattle.exports.specs.Arguments as Argument;
+ghost use Rattle.exports.specs.Asked as Asked;
+ghost use Rattle.exports.specs.Picture as Picture;
+
+use assessment::assess::CollisionAssessment;
+use avoidance::search::{Chosen, Search, Sides};
+use elementary::error::Refusal;
+use manoeuvre::AvoidanceManoeuvre;
+use manoeuvre::trials::TrialList;
+use ruled_search::RuledManoeuvre;
 
 #[unsafe(no_mangle)]
-pub extern "C" fn port_trunc(x: f64) -> f64
-    ensures { result ≡ Whole.trunc x }
+pub extern "C" fn port_closest_point_of_approach(part: u32, words: &[u64]) -> u64
+    ensures { result ≡ Answer.word (Answer.approach_words (Approach.cpa_answer (Argument.own words.now).motion (Argument.entry words.now 0).contact (Argument.entry words.now 0).target.motion)) part }
 {
-    rounding::trunc(x)
+    let e = arguments::entry(words, 0);
+    let answer = relative_motion::approach::closest_point_of_approach(
+        arguments::own(words).motion,
+        e.contact,
+        e.target.motion,
+    );
+    answers::word(&answers::approach_words(answer), part)
 }
 
 #[unsafe(no_mangle)]
-pub extern "C" fn port_round(x: f64) -> f64
-    ensures { result ≡ Whole.round_half_away x }
+pub extern "C" fn port_approach_distance(part: u32, words: &[u64]) -> u64
+    ensures { result ≡ Answer.word (Answer.approach_distance_words (Approach.approach_distance_answer (Argument.own words.now).motion (Argument.entry words.now 0).contact (Argument.entry words.now 0).target.motion)) part }
 {
-    rounding::round(x)
+    let e = arguments::entry(words, 0);
+    let answer = relative_motion::approach::approach_distance(
+        arguments::own(words).motion,
+        e.contact,
+        e.target.motion,
+    );
+    answers::word(&answers::approach_distance_words(answer), part)
 }
 
 #[unsafe(no_mangle)]
-pub extern "C" fn port_ceil(x: f64) -> f64
-    ensures { result ≡ Whole.ceil x }
+pub extern "C" fn port_relative_bearing_of(part: u32, words: &[u64]) -> u64
+    ensures { result ≡ Answer.word (Answer.bearing_words (Approach.bearing_answer (Argument.own words.now).motion (Argument.entry words.now 0).contact)) part }
 {
-    rounding::ceil(x)
+    let answer = relative_motion::approach::relative_bearing_of(
+        arguments::own(words).motion,
+        arguments::entry(words, 0).contact,
+    );
+    answers::word(&answers::bearing_words(answer), part)
 }
 
 #[unsafe(no_mangle)]
-pub extern "C" fn port_to_radians(x: f64) -> f64
-    ensures { result ≡ Convert.to_radians x }
+pub extern "C" fn port_bow_crossing_range(part: u32, words: &[u64]) -> u64
+    ensures { result ≡ Answer.word (Answer.range_words (Bow.bow_answer (Argument.own words.now).motion (Argument.entry words.now 0).contact (Argument.entry words.now 0).target.motion)) part }
 {
-    math::to_radians(x)
+    let e = arguments::entry(words, 0);
+    let answer = relative_motion::bow_crossing::bow_crossing_range(
+        arguments::own(words).motion,
+        e.contact,
+        e.target.motion,
+    );
+    answers::word(&answers::range_words(answer), part)
+}
+
+// The two plots are those of the first two contacts.
+#[unsafe(no_mangle)]
+pub extern "C" fn port_target_from_plot(part: u32, words: &[u64]) -> u64
+    ensures { result ≡ Answer.word (Answer.solution_words (Plot.plot_answer (Argument.own words.now).motion (Argument.entry words.now 0).contact (Argument.entry words.now 1).contact (Argument.elapsed words.now))) part }
+{
+    let answer = relative_motion::plot::target_from_plot(
+        arguments::own(words).motion,
+        arguments::entry(words, 0).contact,
+        arguments::entry(words, 1).contact,
+        arguments::elapsed(words),
+    );
+    answers::word(&answers::solution_words(answer), part)
 }
 
 #[unsafe(no_mangle)]
-pub extern "C" fn port_wrap360(x: f64) -> f64
-    ensures { result ≡ Fold.whole_fold x }
+pub extern "C" fn port_course_for_cpa(part: u32, words: &[u64]) -> u64
+    ensures { result ≡ Answer.word (Answer.courses_words (Course.course_answer (Argument.own words.now).motion (Argument.entry words.now 0).contact (Argument.entry words.now 0).target.motion (Argument.desired words.now))) part }
 {
-    angle::wrap360(x)
+    let e = arguments::entry(words, 0);
+    let answer = relative_motion::course::course_for_cpa(
+        arguments::own(words).motion,
+        e.contact,
+        e.target.motion,
+        arguments::desired(words),
+    );
+    answers::word(&answers::courses_words(answer), part)
 }
 
 #[unsafe(no_mangle)]
-pub extern "C" fn port_wrap180(x: f64) -> f64
-    ensures { result ≡ Fold.half_fold x }
+pub extern "C" fn port_rule_of_the_road(part: u32, words: &[u64]) -> u64
+    ensures { result ≡ Answer.word (Answer.ruling_words (Colregs.ruling_answer (Situation.with_contact (Argument.around words.now) (Argument.entry words.now 0).contact (Argument.entry words.now 0).target) (Argument.config words.now))) part }
 {
-    angle::wrap180(x)
+    let e = arguments::entry(words, 0);
+    let answer = colregs::rules::rule_of_the_road(
+        arguments::around(words).with(e.contact, e.target),
+        arguments::config(words),
+    );
+    answers::word(&answers::ruling_words(answer), part)
+}
+
+// Own craft's rank, as word 1.
+#[unsafe(no_mangle)]
+pub extern "C" fn port_precedence(part: u32, words: &[u64]) -> u64
+    ensures { result ≡ Answer.word (Answer.rank_words (Situation.precedence (Argument.own words.now).category)) part }
+{
+    let rank = arguments::own(words).category.precedence();
+    answers::word(&answers::rank_words(rank), part)
+}
+
+fn assess_asked(words: &[u64]) -> Result<CollisionAssessment, Refusal>
+    ensures { result ≡ Asked.assess_asked words.now }
+{
+    let own = arguments::own(words).motion;
+    let e = arguments::entry(words, 0);
+    motion::argument::check_encounter(own, e.contact, e.target.motion)?;
+    let policy = arguments::policy(words)?;
+    assessment::assess::assess(own, e.contact, e.target.motion, policy)
 }
 
 #[unsafe(no_mangle)]
-pub extern "C" fn port_reciprocal(x: f64) -> f64
-    ensures { result ≡ Fold.reciprocal x }
+pub extern "C" fn port_assess(part: u32, words: &[u64]) -> u64
+    ensures { result ≡ Answer.word (Answer.assessment_words (Asked.assess_asked words.now)) part }
 {
-    angle::reciprocal(x)
+    answers::word(&answers::assessment_words(assess_asked(words)), part)
 }
 
 #[unsafe(no_mangle)]
-pub extern "C" fn port_is_effectively_zero(value: f64, scale: f64) -> bool
-    ensures { result ≡ Test.is_effectively_zero value scale }
+pub extern "C" fn port_collision_picture(part: u32, words: &[u64]) -> u64
+    ensures { result ≡ Picture.picture_word (Argument.own words.now).motion (Argument.entries words.now) (Argument.policy words.now) part }
 {
-    math::is_effectively_zero(value, scale)
+    picture::picture_word(
+        arguments::own(words).motion,
+        &arguments::entries(words),
+        arguments::policy(words),
+        part,
+    )
+}
+
+fn avoid_asked(words: &[u64]) -> Result<AvoidanceManoeuvre, Refusal>
+    ensures { result ≡ Asked.avoid_asked words.now }
+{
+    let own = arguments::own(words).motion;
+    let e = arguments::entry(words, 0);
+    let desired = arguments::desired(words);
+    motion::argument::check_encounter(own, e.contact, e.target.motion)?;
+    motion::argument::check_distance(desired)?;
+    let constraints = arguments::constraints(words)?;
+    avoidance::avoid(own, e.contact, e.target.motion, desired, constraints)
 }
 
 #[unsafe(no_mangle)]
-pub extern "C" fn port_round_to_i32(x: f64) -> i32
-    ensures { result ≡ Rounded.round_to_i32 x }
+pub extern "C" fn port_avoid(part: u32, words: &[u64]) -> u64
+    ensures { result ≡ Answer.word (Answer.avoidance_words (Asked.avoid_asked words.now)) part }
 {
-    rounding::round_to_i32(x)
+    answers::word(&answers::avoidance_words(avoid_asked(words)), part)
+}
+
+fn ruled_asked(words: &[u64]) -> Result<RuledManoeuvre, Refusal>
+    ensures { result ≡ Asked.ruled_asked words.now }
+{
+    let around = arguments::around(words);
+    let t = arguments::entries(words);
+    let desired = arguments::desired(words);
+    clearance::traffic::check_count(arguments::count(words))?;
+    situation::check::check_party(around.own)?;
+    clearance::traffic::check_contacts(&t)?;
+    situation::check::check_optional(around.wind_from)?;
+    motion::argument::check_distance(desired)?;
+    let constraints = arguments::constraints(words)?;
+    ruled_search::ruled_search(around, &t, desired, constraints)
 }
 
 #[unsafe(no_mangle)]
-pub extern "C" fn port_to_usize(x: f64) -> usize
-    ensures { result ≡ Cast.to_usize x }
+pub extern "C" fn port_ruled_search(part: u32, words: &[u64]) -> u64
+    ensures { result ≡ Answer.word (Answer.ruled_words (Asked.ruled_asked words.now)) part }
 {
-    math::to_usize(x)
+    answers::word(&answers::ruled_words(ruled_asked(words)), part)
+}
+
+// The search alone, without checks.
+fn search_asked(words: &[u64]) -> Option<Chosen>
+    ensures { result ≡ Asked.search_asked words.now }
+{
+    let scene = clearance::traffic::scene_of(&arguments::entries(words));
+    let own = arguments::own(words).motion;
+    let list = TrialList {
+        least: arguments::float(words, 9),
+        most: arguments::float(words, 10),
+    };
+    Search::new(own, &scene, arguments::desired(words)).smallest(
+        Sides::from(arguments::sides(arguments::code(words, 13))),
+        list,
+    )
+}
+
+#[unsafe(no_mangle)]
+pub extern "C" fn port_search(part: u32, words: &[u64]) -> u64
+    ensures { result ≡ Answer.word (Answer.chosen_words (Asked.search_asked words.now)) part }
+{
+    answers::word(&answers::chosen_words(search_asked(words)), part)
 }

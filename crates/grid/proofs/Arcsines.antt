@@ -6,7 +6,7 @@ use native.Mathlib.Omega.{arith}
 use lib.Dec.{lit<}
 use mathlib.Core.Bool.{false}
 use Rattle.laws.proofs.Numbers.{sub-add}
-use Rattle.series.specs.Angle.{half_pi, whole, sine_sum}
+use Rattle.trigonometry.specs.Angle.{half_pi, whole, sine_sum}
 use Rattle.grid.specs.Enclosure.{Angle, IsAtMost, IsAtLeast, IsArcsine}
 use Rattle.grid.proofs.Enclosing.{up_at_most, up_at_least, down_at_most, down_at_least}
 use Rattle.grid.proofs.Surrounding.{Place, up, down, Proper, SineAtMost, SineAtLeast, Before, After, Close, Surrounded}

@@ -7,9 +7,9 @@ use native.Mathlib.Nat.{mul-pos, mul-le-mul_right, le_of_mul-le-mul_right, zero-
 use native.Mathlib.Omega.{arith}
 use lib.Dec.{ltb, lit<, lit≤}
 use lib.Ieee.{unlike}
-use Rattle.series.specs.Taylor.{sine_num, sine_den, cosine_num, cosine_den}
-use Rattle.series.specs.Angle.{half_pi, whole, Signed, even, negative, turned, reduced, negated, sine_sum, cosine_sum}
-use Rattle.series_laws.proofs.Turned.{sine_proper, cosine_proper}
+use Rattle.trigonometry.specs.Taylor.{sine_num, sine_den, cosine_num, cosine_den}
+use Rattle.trigonometry.specs.Angle.{half_pi, whole, Signed, even, negative, turned, reduced, negated, sine_sum, cosine_sum}
+use Rattle.trigonometry.proofs.Reduced.{sine_proper, cosine_proper}
 use Rattle.grid.specs.Enclosure.{Angle, Leq, Nearer, Farther, Quadrant, IsArctangent}
 use Rattle.grid.proofs.Turning.{c, Sine, Cosine, same_sine, same_cosine, after-sum, before_sum, below_or_none}
 use Rattle.grid.proofs.Placing.{Turn, up, down, over, back, size, Side, Proper, NotUnder, NotOver, Around}

@@ -5,9 +5,9 @@ use Prim.Native.Nat.{ℕ, ◌+◌, ◌*◌, ◌≤◌, ◌<◌}
 use native.Mathlib.Nat.{one-mul, mul-pos, mul-le-mul_right, le_of_mul-le-mul_right}
 use native.Mathlib.Omega.{arith}
 use lib.Dec.{lit<}
-use Rattle.series.specs.Taylor.{sine_num, sine_den, cosine_num, cosine_den}
-use Rattle.series.specs.Angle.{half_pi, whole, even, negative, turned, negated, sine_sum}
-use Rattle.series_laws.proofs.Turned.{sine_proper, cosine_proper}
+use Rattle.trigonometry.specs.Taylor.{sine_num, sine_den, cosine_num, cosine_den}
+use Rattle.trigonometry.specs.Angle.{half_pi, whole, even, negative, turned, negated, sine_sum}
+use Rattle.trigonometry.proofs.Reduced.{sine_proper, cosine_proper}
 use Rattle.grid.proofs.Turning.{c, Sine, Cosine, same_sine, same_cosine, after-sum, before_sum}
 use Rattle.grid.specs.Enclosure.{IsAtMost, IsAtLeast}
 

@@ -6,7 +6,7 @@ use native.Mathlib.Nat.{div-mul-le_self, lt-div-mul-add, le_of_lt, eq-or-lt_of_l
 use native.Mathlib.Omega.{arith}
 use lib.Arith.{lt→nleb}
 use lib.Dec.{T, leb→le, nleb→lt, le→leb, lit<}
-use Rattle.series.specs.Taylor.{sine_num, sine_den}
+use Rattle.trigonometry.specs.Taylor.{sine_num, sine_den}
 use Rattle.grid.specs.Search.{Found}
 use Rattle.grid.specs.Grid.{last_step, sine_step}
 use Rattle.grid.specs.Arcsine.{at_most, arcsine_steps}

@@ -5,11 +5,11 @@ use Prim.Native.Nat.{ℕ, zero, suc, ◌+◌, ◌*◌, ◌-◌, ◌^◌, ◌/◌
 use native.Mathlib.Nat.{mul-le-mul, mul-le-mul_left, mul-le-mul_right, le_trans, div-mul-le_self, lt-div-mul-add, le_of_lt, le_of_mul-le-mul_left, le_of_mul-le-mul_right, div-le_of_le-mul, zero-mul}
 use native.Mathlib.Omega.{arith}
 use lib.Dec.{T, leb→le, nleb→lt, le→leb, lit<, lit≤}
-use Rattle.series.specs.Taylor.{sine_divisors, cosine_divisors, sine_num, sine_den, cosine_num, cosine_den}
-use Rattle.series.specs.Units.{horner, square, sine_units, cosine_units}
-use Rattle.series_laws.proofs.Horner.{num-le-den}
-use Rattle.series_laws.proofs.Rise.{cosine_falls, cosine_falls_by}
-use Rattle.series_laws.proofs.Turned.{cosine_proper}
+use Rattle.trigonometry.specs.Taylor.{sine_divisors, cosine_divisors, sine_num, sine_den, cosine_num, cosine_den}
+use Rattle.trigonometry.specs.Units.{horner, square, sine_units, cosine_units}
+use Rattle.trigonometry.proofs.Horner.{num-le-den}
+use Rattle.trigonometry.proofs.Rise.{cosine_falls, cosine_falls_by}
+use Rattle.trigonometry.proofs.Reduced.{cosine_proper}
 use Rattle.grid.specs.Search.{Found}
 use Rattle.grid.specs.Grid.{last_step, sine_step, cosine_step}
 use Rattle.grid.specs.Arctangent.{not_above, arctangent_steps}

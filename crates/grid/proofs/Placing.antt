@@ -5,8 +5,8 @@ use mathlib.Core.Logic.{◌⊎◌, inl, inr}
 use Prim.Native.Nat.{ℕ, ◌+◌, ◌*◌, ◌-◌, ◌^◌, ◌/◌, ◌≤◌, ◌<◌}
 use native.Mathlib.Nat.{eq-or-lt_of_le}
 use native.Mathlib.Omega.{arith}
-use Rattle.series.specs.Taylor.{sine_num, sine_den, cosine_num, cosine_den}
-use Rattle.series.specs.Angle.{half_pi, whole}
+use Rattle.trigonometry.specs.Taylor.{sine_num, sine_den, cosine_num, cosine_den}
+use Rattle.trigonometry.specs.Angle.{half_pi, whole}
 use Rattle.grid.specs.Grid.{last_step}
 use Rattle.grid.specs.Arctangent.{arctangent_steps, placed}
 use Rattle.grid.proofs.Octant.{Changes, arctangent_changes}

@@ -5,7 +5,7 @@ use Prim.Native.Nat.{ℕ, ◌*◌, ◌≤◌, ◌<◌}
 use native.Mathlib.Nat.{le_of_mul-le-mul_right, mul-le-mul_right}
 use native.Mathlib.Omega.{arith}
 use lib.Ieee.{unlike}
-use Rattle.series.specs.Angle.{half_pi, whole, sine_sum, cosine_sum}
+use Rattle.trigonometry.specs.Angle.{half_pi, whole, sine_sum, cosine_sum}
 use Rattle.grid.specs.Enclosure.{Angle, IsArcsine, Leq, NotPast, NotShort, Nearer, Farther, Quadrant, IsArctangent}
 
 -- ---- t / s is t' / s'

@@ -11,8 +11,8 @@ use lib.Pow.{pow-add, pow_mono, pow_pos}
 use lib.Ieee.Bits.{is_true, is_false}
 use Rattle.std.specs.Int.Count.{count_leading_zeros}
 use Rattle.std.proofs.lemmas.Nat.{leading_le, leading_top}
-use Rattle.series.specs.Taylor.{sine_divisors}
-use Rattle.series.specs.Units.{horner, square, sine_units}
+use Rattle.trigonometry.specs.Taylor.{sine_divisors}
+use Rattle.trigonometry.specs.Units.{horner, square, sine_units}
 use Rattle.grid.specs.Grid.{last_step, sine_step}
 use Rattle.grid.specs.Arcsine.{arcsine_steps, upper_steps, scale_from, scale, half_pi_steps, arcsine_units}
 use Rattle.grid.proofs.Lower.{arcsine_found}

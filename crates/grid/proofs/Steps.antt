@@ -4,12 +4,12 @@ use Prim.Native.Nat.{ℕ, suc, ◌+◌, ◌*◌, ◌-◌, ◌^◌, ◌/◌, ◌�
 use native.Mathlib.Nat.{mul-le-mul_left, mul-le-mul_right, le_trans, le_of_mul-le-mul_left, le_of_mul-le-mul_right}
 use native.Mathlib.Omega.{arith}
 use lib.Dec.{lit<}
-use Rattle.series.specs.Taylor.{sine_divisors, sine_num, sine_den, cosine_num, cosine_den}
-use Rattle.series.specs.Units.{horner, square, sine_units}
-use Rattle.series_laws.proofs.Near.{Near}
-use Rattle.series_laws.proofs.Values.{sine_near, cosine_near}
-use Rattle.series_laws.proofs.Rise.{sine_rises, sine_rises_sharp}
-use Rattle.series_laws.proofs.Turned.{sine_proper}
+use Rattle.trigonometry.specs.Taylor.{sine_divisors, sine_num, sine_den, cosine_num, cosine_den}
+use Rattle.trigonometry.specs.Units.{horner, square, sine_units}
+use Rattle.trigonometry.proofs.Near.{Near}
+use Rattle.trigonometry.proofs.Values.{sine_near, cosine_near}
+use Rattle.trigonometry.proofs.Rise.{sine_rises, sine_rises_sharp}
+use Rattle.trigonometry.proofs.Reduced.{sine_proper}
 use Rattle.grid.specs.Grid.{last_step, sine_step, cosine_step}
 
 -- ---- over any scale S = k * d: the sine from m / d to n / d rises by at least k / 2 units for each step of 1 / d

@@ -7,11 +7,11 @@ use Prim.Native.Nat.{ℕ, ◌+◌, ◌*◌, ◌-◌, ◌^◌, ◌/◌, ◌≤◌
 use native.Mathlib.Nat.{mul-lt-mul_of_pos_left, le_antisymm, le_of_eq, div-le_self, mul-le-mul, mul-le-mul_left, mul-le-mul_right, le_trans, le_refl, div-mul-le_self, lt-div-mul-add, le_of_lt, le_of_mul-le-mul_left, div-le_of_le-mul, mul-pos, eq-or-lt_of_le}
 use native.Mathlib.Omega.{arith}
 use lib.Dec.{T, leb, ltb, leb→le, nleb→lt, ltb→lt, nltb→le, lit<, lit≤}
-use Rattle.series.specs.Taylor.{num, den, sine_divisors, sine_num, sine_den, cosine_num, cosine_den}
-use Rattle.series_laws.proofs.Horner.{num-le-den}
-use Rattle.series_laws.proofs.Rise.{cosine_falls, cosine_at_zero}
+use Rattle.trigonometry.specs.Taylor.{num, den, sine_divisors, sine_num, sine_den, cosine_num, cosine_den}
+use Rattle.trigonometry.proofs.Horner.{num-le-den}
+use Rattle.trigonometry.proofs.Rise.{cosine_falls, cosine_at_zero}
 use Rattle.grid.specs.Grid.{last_step, sine_step}
-use Rattle.series.specs.Angle.{half_pi, whole}
+use Rattle.trigonometry.specs.Angle.{half_pi, whole}
 use Rattle.grid.specs.Arcsine.{arcsine_steps, upper_steps, scale, half_pi_steps, arcsine_units}
 use Rattle.grid.proofs.Lower.{Enclosed, arcsine_encloses, lower_at}
 use Rattle.grid.proofs.Upper.{Encloses, upper_encloses, upper_below_top, Scaled, scaled}

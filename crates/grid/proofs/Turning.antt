@@ -7,10 +7,10 @@ use native.Mathlib.Nat.{mul-pos, mul-le-mul_left, le_refl, le_of_lt, mul_comm, m
 use native.Mathlib.Omega.{arith}
 use lib.Dec.{T, ltb, ltb→lt, nltb→le, lit<}
 use Rattle.laws.proofs.Bools.{refuted}
-use Rattle.series.specs.Taylor.{sine_num, sine_den, cosine_num, cosine_den}
-use Rattle.series.specs.Angle.{half_pi, whole, distance, quarters, Signed, turned, reduced}
-use Rattle.series_laws.proofs.Reduction.{quarters-between}
-use Rattle.series_laws.proofs.Same.{sine_same, cosine_same}
+use Rattle.trigonometry.specs.Taylor.{sine_num, sine_den, cosine_num, cosine_den}
+use Rattle.trigonometry.specs.Angle.{half_pi, whole, distance, quarters, Signed, turned, reduced}
+use Rattle.trigonometry.proofs.Reduction.{quarters-between}
+use Rattle.trigonometry.proofs.Same.{sine_same, cosine_same}
 
 -- ---- the sine and the cosine of n / d, over the scale that the reduction has
 abbrev pub c : ℕ

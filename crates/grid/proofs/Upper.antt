@@ -7,13 +7,13 @@ use Prim.Native.Nat.{ℕ, zero, suc, ◌+◌, ◌*◌, ◌-◌, ◌^◌, ◌/◌
 use native.Mathlib.Nat.{div-le_self, mul-le-mul, mul-le-mul_left, mul-le-mul_right, le_trans, div-mul-le_self, lt-div-mul-add, le_of_lt, le_of_mul-le-mul_left, le_of_mul-le-mul_right, div-le_of_le-mul, mul-pos, eq-or-lt_of_le, mul-one, one-mul, pow-succ'}
 use native.Mathlib.Omega.{arith}
 use lib.Dec.{T, T_not, leb, leb→le, nleb→lt, le→leb, lit<}
-use Rattle.series.specs.Taylor.{num, den, cosine_divisors, cosine_num, cosine_den}
-use Rattle.series_laws.proofs.Near.{Near, near_mul}
-use Rattle.series_laws.proofs.Horner.{AtLeast, num-le-den, horner-le, horner_near, exact_le}
-use Rattle.series_laws.proofs.Values.{square-small, cosine_at_least}
-use Rattle.series_laws.proofs.Rise.{cosine_falls}
-use Rattle.series_laws.proofs.Slope.{climb_12_to, climb_sharp}
-use Rattle.series_laws.proofs.Turned.{den_pos}
+use Rattle.trigonometry.specs.Taylor.{num, den, cosine_divisors, cosine_num, cosine_den}
+use Rattle.trigonometry.proofs.Near.{Near, near_mul}
+use Rattle.trigonometry.proofs.Horner.{AtLeast, num-le-den, horner-le, horner_near, exact_le}
+use Rattle.trigonometry.proofs.Values.{square-small, cosine_at_least}
+use Rattle.trigonometry.proofs.Rise.{cosine_falls}
+use Rattle.trigonometry.proofs.Slope.{climb_12_to, climb_sharp}
+use Rattle.trigonometry.proofs.Reduced.{den_pos}
 use Rattle.grid.specs.Search.{Found}
 use Rattle.grid.specs.Grid.{last_step}
 use Rattle.grid.specs.Arcsine.{rest, rest_step, fits_in, upper_steps, scale_from, scale}

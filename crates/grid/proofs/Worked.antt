@@ -1,8 +1,8 @@
 -- Worked examples, computed from the definitions: the arcsine of 1 / 2 and of 1 - 2 ^ -40 in units of 2 ^ -52, and an arctangent in steps. A computation of elementary.md's method apart from these definitions gives the same figures, which are within 2 ^ -49 of the C library's arcsine and arctangent.
 use mathlib.Core.Path.{◌≡◌, refl}
 use Prim.Native.Nat.{◌-◌, ◌^◌}
-use Rattle.series.specs.Taylor.{sine_divisors, cosine_divisors}
-use Rattle.series.specs.Units.{horner, square, sine_units, cosine_units}
+use Rattle.trigonometry.specs.Taylor.{sine_divisors, cosine_divisors}
+use Rattle.trigonometry.specs.Units.{horner, square, sine_units, cosine_units}
 use Rattle.grid.specs.Search.{greatest, up_to, greatest_to}
 use Rattle.grid.specs.Grid.{sine_step, cosine_step}
 use Rattle.grid.specs.Arcsine.{at_most, arcsine_steps, rest, rest_step, fits_in, upper_steps, scale_from, scale, arcsine_units}

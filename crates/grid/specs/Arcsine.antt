@@ -2,8 +2,8 @@
 --
 -- Below the sine of a quarter pi it is the greatest step of the grid whose sine is at most X. Above, the angle that is left to half pi, b steps over f, has 1 - cosine = E / 2 ^ 58; both sides are scaled by 2 f², f a power of two with 2 ^ 54 ≤ E f², so that the test keeps its digits next to one.
 use Rattle.std.specs.Prelude.{Bool, cond, ℕ, zero, suc, ◌*◌, ◌-◌, ◌/◌, ◌^◌, leb, ltb}
-use Rattle.series.specs.Taylor.{cosine_divisors}
-use Rattle.series.specs.Units.{horner}
+use Rattle.trigonometry.specs.Taylor.{cosine_divisors}
+use Rattle.trigonometry.specs.Units.{horner}
 use Rattle.grid.specs.Search.{greatest_to}
 use Rattle.grid.specs.Grid.{last_step, sine_step}
 

@@ -1,7 +1,7 @@
 -- What document 01 asks of the arcsine: the answer lies between two angles at most 2 ^ -46 apart whose sines, by the sum of the reduced angle, enclose the argument. And of the arctangent: between two such angles y × cosine - x × sine changes its sign.
 use Rattle.std.specs.Prelude.{◌≡◌, Bool, true, false, ℕ, ◌+◌, ◌*◌, ◌^◌, ◌≤◌, ◌<◌}
 use Rattle.std.specs.Float.Ieee.{unlike}
-use Rattle.series.specs.Angle.{half_pi, whole, Signed, sine_sum, cosine_sum}
+use Rattle.trigonometry.specs.Angle.{half_pi, whole, Signed, sine_sum, cosine_sum}
 
 -- the angle top / bottom
 pub record Angle : Type 0 where

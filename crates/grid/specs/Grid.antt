@@ -1,6 +1,6 @@
 -- The grid of angles, in steps of 2 ^ -49 up to a quarter pi, and the sine and the cosine there in units of 2 ^ -58 (elementary.md, sections 0 and 12).
 use Rattle.std.specs.Prelude.{ℕ, ◌*◌}
-use Rattle.series.specs.Units.{one, sine_units, cosine_units}
+use Rattle.trigonometry.specs.Units.{one, sine_units, cosine_units}
 
 -- a quarter pi in steps, cut
 abbrev pub last_step : ℕ

@@ -1,2 +1,5 @@
--- The lines that the encounter sheet's program prints.
+-- The lines that the program prints, and their fields.
+pub mod Approach
 pub mod Lines
+pub mod Ruling
+pub mod Turn

@@ -4,17 +4,17 @@ use Rattle.std.specs.declared.result.Result.{Result}
 use Rattle.text.specs.Text.{bytes, appended}
 use Rattle.text.specs.Decimal.{decimal_of}
 use Rattle.text.specs.Line.{line}
-use Rattle.fields.specs.Fields.{quantity_field, approach_field, distance_of, seconds_field, risk_field}
-use Rattle.ruling_fields.specs.Fields.{encounter_field, responsibility_field}
+use Rattle.lines.specs.Approach.{quantity_field, approach_field, distance_of, seconds_field, risk_field}
+use Rattle.lines.specs.Ruling.{encounter_field, responsibility_field}
 use Rattle.elementary.specs.declared.error.Refusal.{Refusal}
 use Rattle.elementary.specs.Refusal.{number_of}
 use Rattle.relative_motion.specs.declared.approach.Cpa.{Cpa}
 use Rattle.relative_motion.specs.declared.approach.Track.{Track}
-use Rattle.risk.specs.declared.CollisionRisk.{CollisionRisk}
+use Rattle.assessment.specs.declared.risk.CollisionRisk.{CollisionRisk}
 use Rattle.colregs.specs.declared.answer.Ruling.{Ruling}
 use Rattle.colregs.specs.Ruling.{rule_number}
-use Rattle.rulings.specs.declared.RuledManoeuvre.{RuledManoeuvre}
-pub use Rattle.turn_fields.specs.Fields.{side_field, passing_field, limiting_field}
+use Rattle.ruled_search.specs.declared.RuledManoeuvre.{RuledManoeuvre}
+pub use Rattle.lines.specs.Turn.{side_field, passing_field, limiting_field}
 
 -- 'id, approach, CPA (range if OPENING or STATIONARY), whole seconds to CPA rounded down (`-` if none), risk, encounter, responsibility, rule'
 unfoldable pub contact_line : ℕ → Track Cpa → CollisionRisk → Ruling → List ℕ
@@ -39,7 +39,7 @@ alter_line m id =
     ∷ side_field m.side
     ∷ quantity_field m.magnitude.0
     ∷ quantity_field m.course.0
-    ∷ passing_field m.limiting m.passing
+    ∷ passing_field m.limiting m.least_passing
     ∷ limiting_field m.limiting id
     ∷ [])
 

@@ -1,2 +1,4 @@
--- Manoeuvres.
+-- What a manoeuvre may be and what it says: constraints, the trial list, the answer.
+pub mod Constraints
 pub mod Manoeuvre
+pub mod Trials

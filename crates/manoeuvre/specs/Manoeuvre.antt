@@ -3,18 +3,18 @@ use Rattle.std.specs.Prelude.{cond, Float, None, Some, Err, Ok}
 use Rattle.std.specs.Float.{binary64}
 use Rattle.std.specs.Float.Ieee.{lt, of_bits}
 use Rattle.laws.specs.Ops.{◌⊗◌, ◌⊘◌}
-use Rattle.time.specs.Clock.{from_seconds}
+use Rattle.math.specs.Clock.{from_seconds}
 use Rattle.std.specs.declared.option.Option.{Option}
 use Rattle.std.specs.declared.result.Result.{Result}
 use Rattle.std.specs.Prelude.{ℕ}
-use Rattle.time.specs.declared.Duration.{Duration}
-use Rattle.time.specs.declared.TimeError.{TimeError}
-use Rattle.time.specs.declared.TimeError.TheVariants.{NoTime, TooLong}
+use Rattle.math.specs.declared.duration.Duration.{Duration}
+use Rattle.math.specs.declared.duration.TimeError.{TimeError}
+use Rattle.math.specs.declared.duration.TimeError.TheVariants.{NoTime, TooLong}
 use Rattle.motion.specs.declared.units.Angle.{Angle}
 use Rattle.motion.specs.declared.units.Direction.{Direction}
 use Rattle.motion.specs.declared.units.Distance.{Distance}
 use Rattle.motion.specs.declared.units.RateOfTurn.{RateOfTurn}
-use Rattle.arguments.specs.Check.{zero}
+use Rattle.motion.specs.Check.{zero}
 use Rattle.motion.specs.declared.side.Side.{Side}
 use Rattle.manoeuvre.specs.declared.AvoidanceManoeuvre.{AvoidanceManoeuvre}
 

@@ -2,14 +2,17 @@
 // avoidance.rs's `AvoidanceManoeuvre`.
 #![tactic(auto)]
 
+pub mod constraints;
+pub mod trials;
+
 ghost use Rattle.std.specs.Prelude.{◌≡◌};
 ghost use Rattle.manoeuvre.specs.Manoeuvre as Spec;
 
+use math::duration::Duration;
 use motion::side::Side;
 use motion::units::{Angle, Direction, Distance, RateOfTurn};
-use time::Duration;
 
-// The alteration is positive to starboard. Apart from `rulings::RuledManoeuvre`: this is the Rust's type, whose one signed alteration loses the
+// The alteration is positive to starboard. Apart from `ruled_search::RuledManoeuvre`: this is the Rust's type, whose one signed alteration loses the
 // side of a turn of 0.
 #[derive(Clone, Copy)]
 pub struct AvoidanceManoeuvre {
@@ -26,7 +29,7 @@ pub fn turn_time(magnitude: f64, rate: Option<RateOfTurn>) -> Option<Duration>
     ensures { result ≡ Spec.turn_time magnitude rate }
 {
     let rate = rate?;
-    time::duration_from_secs(magnitude / rate.0 * 60.0).ok()
+    math::duration::duration_from_secs(magnitude / rate.0 * 60.0).ok()
 }
 
 impl AvoidanceManoeuvre {
@@ -90,7 +93,7 @@ impl AvoidanceManoeuvre {
         self.least_passing
     }
 
-    // The contact that passes at it.
+    // The contact that passes at it, by its place in the list; in the Rust `limiting_target`, by its id.
     pub fn limiting(self) -> Option<usize>
         ensures { result ≡ self.limiting }
     {

@@ -1,7 +1,12 @@
 // The helpers of math.rs that the encounter module leans on: conversions between degrees and radians, signs, tests,
-// and casts. Each takes any f64, NaN and infinities included. Rounding to whole numbers and the six elementary functions stand
-// in crates of their own.
+// and casts. Each takes any f64, NaN and infinities included. The six elementary functions stand in crates
+// of their own.
 #![tactic(auto)]
+
+pub mod angle;
+pub mod duration;
+pub mod remainder;
+pub mod rounding;
 
 ghost use Rattle.std.specs.Prelude.{◌≡◌, ℕ, suc, ◌*◌, ◌<◌, ◌≤◌, ◌^◌, true, false, pos, negsuc, Float};
 ghost use Rattle.std.specs.Float.Ieee as Ieee;
@@ -20,10 +25,10 @@ use std::f64::consts::PI;
 pub const LEADING: u64 = 4503599627370496;
 
 // Degrees in a radian, as math.rs has them.
-pub const DEGREES_PER_RADIAN: f64 = 180.0 / PI;
+const DEGREES_PER_RADIAN: f64 = 180.0 / PI;
 
 // How near to zero a value counts as zero, in parts of its operands.
-pub const RELATIVE_TOLERANCE: f64 = 1e-12;
+const RELATIVE_TOLERANCE: f64 = 1e-12;
 
 // Degrees to radians. `f64::to_radians` multiplies by the inverse, which rounds otherwise.
 pub fn to_radians(degrees: f64) -> f64

@@ -3,10 +3,10 @@ use Rattle.std.specs.Prelude.{Float}
 use Rattle.std.specs.Float.Ieee.{neg}
 use Rattle.laws.specs.Ops.{◌⊕◌, ◌⊖◌, ◌⊗◌, ◌⊘◌}
 use Rattle.math.specs.Convert.{to_radians, to_degrees}
-use Rattle.angle.specs.Fold.{whole_fold}
-use Rattle.root.specs.Hypot.{hypot}
-use Rattle.circular.specs.Sine.{sin, cos}
-use Rattle.inverse.specs.Atan2.{atan2}
+use Rattle.math.specs.Fold.{whole_fold}
+use Rattle.roots.specs.Hypot.{hypot}
+use Rattle.trigonometry.specs.Sine.{sin, cos}
+use Rattle.inverse_trigonometry.specs.Atan2.{atan2}
 use Rattle.motion.specs.declared.units.Direction.{Direction}
 use Rattle.motion.specs.declared.vessel.Vessel.{Vessel}
 use Rattle.motion.specs.declared.vessel.Contact.{Contact}

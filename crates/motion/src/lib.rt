@@ -1,9 +1,8 @@
-// Quantities with their units, and vessels and contacts with their velocities and offsets.
-//
-// Own craft is at the origin and the contact moves, as on a radar display. The definitions in specs/ follow relative_motion.rs
-// operation by operation.
+// Quantities with their units, vessels and contacts, the capacity for contacts, and the checks of arguments.
 #![tactic(auto)]
 
+pub mod argument;
+pub mod capacity;
 pub mod side;
 pub mod units;
 pub mod vessel;

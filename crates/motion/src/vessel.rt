@@ -31,7 +31,7 @@ impl Components {
     pub fn size(self) -> f64
         ensures { result ≡ Spec.size self }
     {
-        root::hypot(self.north, self.east)
+        roots::hypot(self.north, self.east)
     }
 
     // The inner product, how far it goes along `other` times the other's size.
@@ -135,8 +135,8 @@ pub fn unit(degrees: f64) -> Components
 {
     let radians = math::to_radians(degrees);
     Components {
-        north: circular::cos(radians),
-        east: circular::sin(radians),
+        north: trigonometry::cos(radians),
+        east: trigonometry::sin(radians),
     }
 }
 
@@ -153,11 +153,13 @@ fn resolved(size: f64, direction: Direction) -> Components
 pub fn direction_of(c: Components) -> Direction
     ensures { result ≡ Spec.direction_of c }
 {
-    Direction(angle::from_degrees_wrapped(math::to_degrees(inverse::atan2(c.east, c.north))))
+    Direction(math::angle::from_degrees_wrapped(math::to_degrees(
+        inverse_trigonometry::arctangent::atan2(c.east, c.north),
+    )))
 }
 
 impl Vessel {
-    // Knots north and east.
+    // Knots north and east; rules.rs has it once more, as `components`.
     #[tactic(auto, unfolding(crate::specs::Vessel::velocity))]
     pub fn velocity(self) -> Components
         ensures { result ≡ Spec.velocity self }

@@ -3,15 +3,15 @@ use Rattle.std.specs.Prelude.{cond, ◌++◌, ℕ, ◌-◌, ◌^◌, Float, Err,
 use Rattle.std.specs.Float.{nan, binary64}
 use Rattle.std.specs.Float.Ieee.{neg, lt, le, of_bits}
 use Rattle.laws.specs.Ops.{◌⊕◌, ◌⊖◌, ◌⊗◌, ◌⊘◌}
-use Rattle.angle.specs.Fold.{whole_fold}
-use Rattle.time.specs.Clock.{from_hours}
-use Rattle.time.specs.declared.Duration.{Duration}
+use Rattle.math.specs.Fold.{whole_fold}
+use Rattle.math.specs.Clock.{from_hours}
+use Rattle.math.specs.declared.duration.Duration.{Duration}
 use Rattle.std.specs.declared.result.Result.{Result}
 use Rattle.elementary.specs.declared.error.Refusal.{Refusal}
 use Rattle.motion.specs.declared.units.RelativeBearing.{RelativeBearing}
-use Rattle.time.specs.declared.TimeError.{TimeError}
-use Rattle.time.specs.declared.TimeError.TheVariants.{NoTime, TooLong}
-use Rattle.root.specs.Hypot.{hypot}
+use Rattle.math.specs.declared.duration.TimeError.{TimeError}
+use Rattle.math.specs.declared.duration.TimeError.TheVariants.{NoTime, TooLong}
+use Rattle.roots.specs.Hypot.{hypot}
 use Rattle.elementary.specs.Refusal.{number_of}
 use Rattle.motion.specs.declared.units.Distance.{Distance}
 use Rattle.motion.specs.declared.vessel.Vessel.{Vessel}
@@ -20,7 +20,7 @@ use Rattle.motion.specs.declared.vessel.Components.{Components}
 use Rattle.relative_motion.specs.declared.approach.Cpa.{Cpa}
 use Rattle.relative_motion.specs.declared.approach.Closest.{Closest}
 use Rattle.relative_motion.specs.declared.approach.Track.{Track}
-use Rattle.arguments.specs.Check.{zero, verdict, vessel_checks, contact_checks, encounter_checks}
+use Rattle.motion.specs.Check.{zero, verdict, vessel_checks, contact_checks, encounter_checks}
 use Rattle.motion.specs.Vessel.{direction_of, offset, relative_velocity}
 
 -- 1e-9
@@ -28,13 +28,13 @@ abbrev pub stationary_knots : Float
 stationary_knots = of_bits binary64 0x3e11_2e0b_e826_d695
 
 -- a time that is too long is the longest one
-abbrev pub time_in : Result Duration TimeError → Duration
-time_in (Ok d) = d
-time_in (Err TooLong) = record { secs = 2 ^ 64 - 1; nanos = 999999999 }
-time_in (Err NoTime) = record { secs = 2 ^ 64 - 1; nanos = 999999999 }
+abbrev pub time_or_longest : Result Duration TimeError → Duration
+time_or_longest (Ok d) = d
+time_or_longest (Err TooLong) = record { secs = 2 ^ 64 - 1; nanos = 999999999 }
+time_or_longest (Err NoTime) = record { secs = 2 ^ 64 - 1; nanos = 999999999 }
 
 unfoldable pub time_to_go : Float → Duration
-time_to_go hours = time_in (from_hours hours)
+time_to_go hours = time_or_longest (from_hours hours)
 
 unfoldable pub relative_speed : Components → Float
 relative_speed relative = hypot relative.north relative.east
@@ -69,32 +69,32 @@ unfoldable pub approach : Vessel → Contact → Vessel → Track Cpa
 approach own contact target = approach_from contact.range (offset contact) (relative_velocity own target)
 
 -- ---- the answers, by the verdict on the arguments
-abbrev pub cpa_by : Result (Unit {0}) Refusal → Track Cpa → Result (Track Cpa) Refusal
-cpa_by (Ok tt) a = Ok a
-cpa_by (Err why) a = Err why
+abbrev pub cpa_if_accepted : Result (Unit {0}) Refusal → Track Cpa → Result (Track Cpa) Refusal
+cpa_if_accepted (Ok tt) a = Ok a
+cpa_if_accepted (Err why) a = Err why
 
 unfoldable pub cpa_answer : Vessel → Contact → Vessel → Result (Track Cpa) Refusal
-cpa_answer own contact target = cpa_by (verdict (encounter_checks own contact target) (Ok tt)) (approach own contact target)
+cpa_answer own contact target = cpa_if_accepted (verdict (encounter_checks own contact target) (Ok tt)) (approach own contact target)
 
 -- an approach without its time and bearing
-abbrev pub passing_in : Track Cpa → Track Distance
-passing_in (Track.Closing cpa) = Track.Closing cpa.distance
-passing_in (Track.Opening range) = Track.Opening range
-passing_in (Track.Stationary range) = Track.Stationary range
+abbrev pub distance_alone : Track Cpa → Track Distance
+distance_alone (Track.Closing cpa) = Track.Closing cpa.distance
+distance_alone (Track.Opening range) = Track.Opening range
+distance_alone (Track.Stationary range) = Track.Stationary range
 
-abbrev pub passing_of_answer : Result (Track Cpa) Refusal → Result (Track Distance) Refusal
-passing_of_answer (Ok a) = Ok (passing_in a)
-passing_of_answer (Err why) = Err why
+abbrev pub distance_alone_answer : Result (Track Cpa) Refusal → Result (Track Distance) Refusal
+distance_alone_answer (Ok a) = Ok (distance_alone a)
+distance_alone_answer (Err why) = Err why
 
-unfoldable pub passing_answer : Vessel → Contact → Vessel → Result (Track Distance) Refusal
-passing_answer own contact target = passing_of_answer (cpa_answer own contact target)
+unfoldable pub approach_distance_answer : Vessel → Contact → Vessel → Result (Track Distance) Refusal
+approach_distance_answer own contact target = distance_alone_answer (cpa_answer own contact target)
 
-abbrev pub bearing_by : Result (Unit {0}) Refusal → Float → Result RelativeBearing Refusal
-bearing_by (Ok tt) b = Ok (record { 0 = b })
-bearing_by (Err why) b = Err why
+abbrev pub bearing_if_accepted : Result (Unit {0}) Refusal → Float → Result RelativeBearing Refusal
+bearing_if_accepted (Ok tt) b = Ok (record { 0 = b })
+bearing_if_accepted (Err why) b = Err why
 
 unfoldable pub bearing_answer : Vessel → Contact → Result RelativeBearing Refusal
-bearing_answer own contact = bearing_by (verdict (vessel_checks own ++ contact_checks contact) (Ok tt)) (whole_fold (contact.bearing.0 ⊖ own.course.0))
+bearing_answer own contact = bearing_if_accepted (verdict (vessel_checks own ++ contact_checks contact) (Ok tt)) (whole_fold (contact.bearing.0 ⊖ own.course.0))
 
 -- ---- document 01's number of an answer, 0 where it is answered, and its values
 abbrev pub cpa_number : Result (Track Cpa) Refusal → ℕ

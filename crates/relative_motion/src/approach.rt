@@ -4,10 +4,10 @@ ghost use Rattle.motion.specs.Vessel as Motion;
 ghost use Rattle.relative_motion.specs.Approach as Spec;
 
 use elementary::error::Refusal;
+use math::duration::Duration;
 use motion::units::{Direction, Distance, RelativeBearing};
 use motion::vessel;
 use motion::vessel::{Components, Contact, Vessel};
-use time::Duration;
 
 // Relative speed, in knots, below which a contact keeps its bearing and range.
 const STATIONARY_KNOTS: f64 = 1e-9;
@@ -32,7 +32,7 @@ pub enum Track<C> {
 pub type Approach = Track<Cpa>;
 
 // A track with the distance of that point alone.
-pub type Pass = Track<Distance>;
+pub type ApproachDistance = Track<Distance>;
 
 impl<C: Copy> Track<C> {
     // The same track, with what `f` makes of the point ahead.
@@ -71,7 +71,7 @@ struct Closest {
 fn time_to_go(hours: f64) -> Duration
     ensures { result ≡ Spec.time_to_go hours }
 {
-    time::duration_from_hours(hours).unwrap_or(Duration::MAX)
+    math::duration::duration_from_hours(hours).unwrap_or(Duration::MAX)
 }
 
 impl Relative {
@@ -133,8 +133,8 @@ impl Relative {
 
     // The same without time and bearing.
     #[tactic(auto, unfolding(crate::specs::Approach::approach_from, crate::specs::Approach::track))]
-    pub fn passing(self) -> Pass
-        ensures { result ≡ Spec.passing_in (Spec.approach_from self.range self.offset self.velocity) }
+    pub fn approach_distance(self) -> ApproachDistance
+        ensures { result ≡ Spec.distance_alone (Spec.approach_from self.range self.offset self.velocity) }
     {
         self.track().map(|closest| closest.distance)
     }
@@ -149,25 +149,29 @@ pub fn closest_point_of_approach(
 ) -> Result<Approach, Refusal>
     ensures { result ≡ Spec.cpa_answer own contact target }
 {
-    arguments::check_encounter(own, contact, target)?;
+    motion::argument::check_encounter(own, contact, target)?;
     Ok(Relative::of(own, contact, target).approach())
 }
 
 // Its kind and distance alone, at the price of no arctangent and no time.
-#[tactic(auto, unfolding(crate::specs::Approach::passing_answer, crate::specs::Approach::cpa_answer, crate::specs::Approach::approach))]
-pub fn passing(own: Vessel, contact: Contact, target: Vessel) -> Result<Pass, Refusal>
-    ensures { result ≡ Spec.passing_answer own contact target }
+#[tactic(auto, unfolding(crate::specs::Approach::approach_distance_answer, crate::specs::Approach::cpa_answer, crate::specs::Approach::approach))]
+pub fn approach_distance(
+    own: Vessel,
+    contact: Contact,
+    target: Vessel,
+) -> Result<ApproachDistance, Refusal>
+    ensures { result ≡ Spec.approach_distance_answer own contact target }
 {
-    arguments::check_encounter(own, contact, target)?;
-    Ok(Relative::of(own, contact, target).passing())
+    motion::argument::check_encounter(own, contact, target)?;
+    Ok(Relative::of(own, contact, target).approach_distance())
 }
 
 // The bearing of a contact from own bow.
-#[tactic(auto, unfolding(crate::specs::Approach::bearing_answer, arguments::specs::Check::verdict))]
+#[tactic(auto, unfolding(crate::specs::Approach::bearing_answer, motion::specs::Check::verdict))]
 pub fn relative_bearing_of(own: Vessel, contact: Contact) -> Result<RelativeBearing, Refusal>
     ensures { result ≡ Spec.bearing_answer own contact }
 {
-    arguments::check_vessel(own)?;
-    arguments::check_contact(contact)?;
-    Ok(RelativeBearing(angle::from_degrees_wrapped(contact.bearing.0 - own.course.0)))
+    motion::argument::check_vessel(own)?;
+    motion::argument::check_contact(contact)?;
+    Ok(RelativeBearing(math::angle::from_degrees_wrapped(contact.bearing.0 - own.course.0)))
 }

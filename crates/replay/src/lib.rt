@@ -25,7 +25,7 @@ pub trait Replayed {
         ensures { Answers self.now bytes.now result };
 }
 
-// Word i of a record, 0 where there is none. Apart from `sheet_words::word_at`, of words of four bytes: one function for both would want a trait
+// Word i of a record, 0 where there is none. Apart from `sheet_record::word::word_at`, of words of four bytes: one function for both would want a trait
 // for `from_le_bytes` of `u64` and `u32`.
 pub fn word(bytes: &[u8], i: usize) -> u64
     ensures { result ≡ get_or (Spec.words bytes.now) i 0 }

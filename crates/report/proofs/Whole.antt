@@ -15,30 +15,30 @@ use Rattle.std.specs.declared.result.Result.{Result}
 use Rattle.motion.specs.declared.units.Direction.{Direction}
 use Rattle.relative_motion.specs.declared.approach.Cpa.{Cpa}
 use Rattle.relative_motion.specs.declared.approach.Track.{Track}
-use Rattle.rulings.specs.declared.RuledManoeuvre.{RuledManoeuvre}
+use Rattle.ruled_search.specs.declared.RuledManoeuvre.{RuledManoeuvre}
 use Rattle.relative_motion.specs.Approach.{cpa_answer}
-use Rattle.policy.specs.declared.CpaPolicy.{CpaPolicy}
-use Rattle.risk.specs.Risk.{nearest, risk_of}
+use Rattle.assessment.specs.declared.policy.CpaPolicy.{CpaPolicy}
+use Rattle.assessment.specs.Risk.{nearest, risk_of}
 use Rattle.situation.specs.declared.party.Party.{Party}
 use Rattle.situation.specs.declared.party.Visibility.{Visibility}
 use Rattle.situation.specs.Situation.{standard}
 use Rattle.colregs.specs.Colregs.{ruling_answer}
-use Rattle.room.specs.Room.{max_contacts}
-use Rattle.rulings.specs.Ruled.{situation_of}
+use Rattle.motion.specs.Capacity.{max_contacts}
+use Rattle.ruled_search.specs.Ruled.{situation_of}
 use Rattle.sheet_record.specs.declared.Row.{Row}
-use Rattle.sheet_values.specs.Values.{entry_of, own_of, visibility_of, wind_from}
+use Rattle.sheet.specs.Values.{entry_of, own_of, visibility_of, wind_from}
 use Rattle.lines.specs.Lines.{refused_line}
-use Rattle.lines_laws.proofs.Short.{contact_short, alter_short, refused_short}
-use Rattle.contact_lines.specs.Contacts.{line_by, line_on, contact_lines}
-use Rattle.constraints.specs.declared.ManoeuvreConstraints.{ManoeuvreConstraints}
+use Rattle.lines.proofs.Short.{contact_short, alter_short, refused_short}
+use Rattle.report.specs.Contacts.{line_if_answered, line_of, contact_lines}
+use Rattle.manoeuvre.specs.declared.constraints.ManoeuvreConstraints.{ManoeuvreConstraints}
 use Rattle.sheet_record.specs.declared.Header.{Header}
 use Rattle.sheet_record.specs.Record.{header_of, rows_of}
-use Rattle.sheet_record.proofs.Filling.{few-rows}
-use Rattle.sheet_words.specs.Word.{words}
+use Rattle.sheet_record.proofs.RecordCode.{few-rows}
+use Rattle.sheet_record.specs.Word.{words}
 use Rattle.sheet.specs.Sheet.{sheet_verdict}
-use Rattle.report.specs.Report.{id_at, answer_line, answer_on, lines_by, lines_on, policy_on, constraints_on, by_verdict, report}
+use Rattle.report.specs.Report.{id_at, answer_line, search_answer, lines_under, lines_of, policy_of, constraints_of, lines_if_accepted, report}
 
-by_short : (id : ℕ) (p : CpaPolicy) (a : Result (Track Cpa) Refusal) (r : Result Ruling Refusal) → length (line_by id p a r) ≤ 129
+by_short : (id : ℕ) (p : CpaPolicy) (a : Result (Track Cpa) Refusal) (r : Result Ruling Refusal) → length (line_if_answered id p a r) ≤ 129
 by_short id p (Ok a) (Ok r) = contact_short id a (risk_of p (nearest a)) r
 by_short id p (Ok a) (Err why) = omega (arith, refused_short why)
 by_short id p (Err why) r = omega (arith, refused_short why)
@@ -48,8 +48,8 @@ answer_short rs (Ok m) = alter_short m (id_at rs m.limiting)
 answer_short rs (Err why) = omega (arith, refused_short why)
 
 module _ (own : Party) (visibility : Visibility) (wind : Option Direction) (policy : CpaPolicy) where
-  line_short : (r : Row) → length (line_on own visibility wind policy r) ≤ 129
-  unfolding line_on
+  line_short : (r : Row) → length (line_of own visibility wind policy r) ≤ 129
+  unfolding line_of
   line_short r =
       let e = entry_of r in
       by_short r.id policy (cpa_answer own.motion e.contact e.target.motion) (ruling_answer (situation_of own visibility wind e) standard)
@@ -57,16 +57,16 @@ module _ (own : Party) (visibility : Visibility) (wind : Option Direction) (poli
   pub contacts_short : (rs : List Row) → length (contact_lines own visibility wind policy rs) ≤ 129 * length rs
   unfolding contact_lines flat_map
   contacts_short [] = lit≤ tt
-  contacts_short (r ∷ rs) = omega (arith, length-append (line_on own visibility wind policy r) (contact_lines own visibility wind policy rs), line_short r, contacts_short rs)
+  contacts_short (r ∷ rs) = omega (arith, length-append (line_of own visibility wind policy r) (contact_lines own visibility wind policy rs), line_short r, contacts_short rs)
 
-lines_fit : (h : Header) (rs : List Row) → length rs ≤ max_contacts → length (lines_on h rs) ≤ room
-unfolding lines_on
-lines_fit h rs few = by (policy_on h) (constraints_on h)
+lines_fit : (h : Header) (rs : List Row) → length rs ≤ max_contacts → length (lines_of h rs) ≤ room
+unfolding lines_of
+lines_fit h rs few = by (policy_of h) (constraints_of h)
   where
-    by : (p : Result CpaPolicy Refusal) (c : Result ManoeuvreConstraints Refusal) → length (lines_by h rs p c) ≤ room
+    by : (p : Result CpaPolicy Refusal) (c : Result ManoeuvreConstraints Refusal) → length (lines_under h rs p c) ≤ room
     by (Ok p) (Ok c) =
         let lines = contact_lines (own_of h) (visibility_of h.visibility) (wind_from h) p rs in
-        let answer = answer_on h rs c in
+        let answer = search_answer h rs c in
         omega (arith, length-append lines (answer_line rs answer), contacts_short (own_of h) (visibility_of h.visibility) (wind_from h) p rs, answer_short rs answer, few)
     by (Ok p) (Err why) = omega (arith, refused_short why)
     by (Err why) c = omega (arith, refused_short why)
@@ -75,7 +75,7 @@ pub report_fits : (s : List ℕ) → length (report s) ≤ room
 unfolding report
 report_fits s = by (sheet_verdict s)
   where
-    by : (v : Result (Unit {0}) Refusal) → length (by_verdict v (lines_on (header_of (words s)) (rows_of (words s)))) ≤ room
+    by : (v : Result (Unit {0}) Refusal) → length (lines_if_accepted v (lines_of (header_of (words s)) (rows_of (words s)))) ≤ room
     by (Ok tt) = lines_fit (header_of (words s)) (rows_of (words s)) (few-rows (words s))
     by (Err why) = omega (arith, refused_short why)
 

@@ -1,2 +1,6 @@
--- What the encounter program prints for a sheet.
+-- From a sheet's bytes to the lines that the program prints.
+pub mod Before
+pub mod Contacts
+pub mod Plain
+pub mod Reading
 pub mod Report

@@ -1,2 +1,9 @@
--- What the checks of a sheet owe.
-pub mod Steps
+-- Laws, and what code owes.
+pub mod Accepted
+pub mod Back
+pub mod Before
+pub mod Exactly
+pub mod Forth
+pub mod Groups
+pub mod Refusals
+pub mod SheetCode

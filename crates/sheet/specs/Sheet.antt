@@ -1,19 +1,19 @@
 -- The checks of a sheet (01, 'Encounter sheet and its program': 'checks: 15, 14, 16, then values in sheet order'; R-1: 'a wind of 360 or more gets number 1').
 use Rattle.std.specs.Prelude.{List, [], ◌∷◌, ◌++◌, map, ℕ, leb, Err, Ok}
-use Rattle.time.specs.Clock.{is_accepted}
+use Rattle.math.specs.Clock.{is_accepted}
 use Rattle.elementary.specs.declared.error.Refusal.TheVariants as Why
 use Rattle.std.specs.declared.result.Result.{Result}
 use Rattle.elementary.specs.declared.error.Refusal.{Refusal}
-use Rattle.arguments.specs.Check.{Check, check, verdict, is_distance, vessel_checks, distance_checks}
-use Rattle.situation.specs.Arguments.{perhaps_checks}
-use Rattle.constraints.specs.Constraints.{alteration_checks}
-use Rattle.traffic.specs.declared.Entry.{Entry}
-use Rattle.traffic.specs.Traffic.{contacts_checks}
-use Rattle.sheet_words.specs.Word.{words}
+use Rattle.motion.specs.Check.{Check, check, verdict, is_distance, vessel_checks, distance_checks}
+use Rattle.situation.specs.Arguments.{optional_checks}
+use Rattle.manoeuvre.specs.Constraints.{alteration_checks}
+use Rattle.clearance.specs.declared.traffic.Entry.{Entry}
+use Rattle.clearance.specs.Traffic.{contacts_checks}
+use Rattle.sheet_record.specs.Word.{words}
 use Rattle.sheet_record.specs.declared.Header.{Header}
 use Rattle.sheet_record.specs.declared.Row.{Row}
 use Rattle.sheet_record.specs.Record.{header_of, rows_of, readable}
-use Rattle.sheet_values.specs.Values.{scaled, own_of, wind_from, entry_of}
+use Rattle.sheet.specs.Values.{scaled, own_of, wind_from, entry_of}
 
 -- ---- codes: own category, visibility, the contacts' categories
 unfoldable pub category_checks : List Row → List Check
@@ -30,15 +30,15 @@ limit_checks h = check (is_distance (record { 0 = scaled h.cpa_limit })) Why.Dis
 unfoldable pub value_checks : Header → List Entry → List Check
 value_checks h es =
     vessel_checks (own_of h).motion ++ (distance_checks (record { 0 = scaled h.desired }) ++ (alteration_checks (record { 0 = scaled h.least }) (record { 0 = scaled h.most })
-    ++ (limit_checks h ++ (perhaps_checks (wind_from h) ++ contacts_checks es))))
+    ++ (limit_checks h ++ (optional_checks (wind_from h) ++ contacts_checks es))))
 
 -- ---- the sheet
-abbrev pub by_layout : Result (Unit {0}) Refusal → Result (Unit {0}) Refusal → Result (Unit {0}) Refusal
-by_layout (Ok tt) v = v
-by_layout (Err why) v = Err why
+abbrev pub if_readable : Result (Unit {0}) Refusal → Result (Unit {0}) Refusal → Result (Unit {0}) Refusal
+if_readable (Ok tt) v = v
+if_readable (Err why) v = Err why
 
 unfoldable pub sheet_verdict : List ℕ → Result (Unit {0}) Refusal
 sheet_verdict s =
     let h = header_of (words s) in
     let rs = rows_of (words s) in
-    by_layout (readable s) (verdict (code_checks h rs ++ value_checks h (map entry_of rs)) (Ok tt))
+    if_readable (readable s) (verdict (code_checks h rs ++ value_checks h (map entry_of rs)) (Ok tt))

@@ -1,23 +1,26 @@
 // The checks of an encounter sheet, in document 01's order: layout (15), count (14), codes (16), then the values in the sheet's order.
 #![tactic(auto)]
 
+pub mod limits;
+pub mod values;
+
 ghost use Rattle.std.specs.Prelude.{◌≡◌};
-ghost use Rattle.arguments.specs.Check as Check;
+ghost use Rattle.motion.specs.Check as Check;
 ghost use Rattle.sheet.specs.Sheet as Spec;
 
+use crate::values::scaled;
+use clearance::traffic::Entry;
 use elementary::error::Refusal;
 use motion::units::Distance;
 use sheet_record::{Header, Row};
-use sheet_values::scaled;
 use situation::check;
-use traffic::Entry;
 
 // The categories of the contacts (number 16).
 fn check_categories(rows: &[Row]) -> Result<(), Refusal>
     ensures { result ≡ Check.checked (Spec.category_checks rows.now) }
 {
     for row in rows {
-        arguments::ensure(row.category <= 7, Refusal::UnknownCode)?;
+        motion::argument::ensure(row.category <= 7, Refusal::UnknownCode)?;
     }
     Ok(())
 }
@@ -26,8 +29,8 @@ fn check_categories(rows: &[Row]) -> Result<(), Refusal>
 fn check_codes(h: Header, rows: &[Row]) -> Result<(), Refusal>
     ensures { result ≡ Check.checked (Spec.code_checks h rows.now) }
 {
-    arguments::ensure(h.category <= 7, Refusal::UnknownCode)?;
-    arguments::ensure(h.visibility <= 1, Refusal::UnknownCode)?;
+    motion::argument::ensure(h.category <= 7, Refusal::UnknownCode)?;
+    motion::argument::ensure(h.visibility <= 1, Refusal::UnknownCode)?;
     check_categories(rows)
 }
 
@@ -35,14 +38,14 @@ fn check_codes(h: Header, rows: &[Row]) -> Result<(), Refusal>
 fn check_values(h: Header, t: &[Entry]) -> Result<(), Refusal>
     ensures { result ≡ Check.checked (Spec.value_checks h t.now) }
 {
-    let own = sheet_values::own_of(h);
-    let wind = sheet_values::wind_from(h);
-    arguments::check_vessel(own.motion)?;
-    arguments::check_distance(Distance(scaled(h.desired)))?;
-    sheet_limits::constraints_on(h)?;
-    sheet_limits::policy_on(h)?;
-    check::check_perhaps(wind)?;
-    traffic::check_contacts(t)
+    let own = crate::values::own_of(h);
+    let wind = crate::values::wind_from(h);
+    motion::argument::check_vessel(own.motion)?;
+    motion::argument::check_distance(Distance(scaled(h.desired)))?;
+    crate::limits::constraints_of(h)?;
+    crate::limits::policy_of(h)?;
+    check::check_optional(wind)?;
+    clearance::traffic::check_contacts(t)
 }
 
 // Whether a sheet is accepted, and the refusal if it is not.
@@ -53,5 +56,5 @@ pub fn check_sheet(bytes: &[u8]) -> Result<(), Refusal>
     let h = sheet_record::header_of(bytes);
     let rows = sheet_record::rows_of(bytes);
     check_codes(h, &rows)?;
-    check_values(h, &sheet_values::traffic_of(&rows))
+    check_values(h, &crate::values::traffic_of(&rows))
 }

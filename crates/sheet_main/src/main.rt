@@ -7,7 +7,7 @@ ghost use Rattle.std.specs.Prelude.{◌≤◌, ◌++◌, ◌∷◌, [], OnOk};
 ghost use Rattle.std.specs.Io.KnownBytes.{Appends};
 ghost use Rattle.report.specs.Report.{report};
 
-use sheet_io::{print_report, read_full};
+use report::stream::{print_report, read_full};
 use std::io::{self, Write};
 
 // Room for a sheet that is too long.

@@ -1,2 +1,4 @@
--- What the reading of a record owes.
-pub mod Filling
+-- Laws, and what code owes.
+pub mod EncodeCode
+pub mod RecordCode
+pub mod WordCode

@@ -1,14 +1,17 @@
 // An encounter sheet as a record of whole numbers, as they stand in its words: the header and up to MAX_CONTACTS contacts.
 #![tactic(auto)]
 
+pub mod encode;
+pub mod word;
+
 ghost use Rattle.std.specs.Prelude.{◌≡◌, ◌<◌, List, length, map, get_or, ℕ};
 ghost use Rattle.std.specs.Int.{w32, from_le_bytes};
-ghost use Rattle.sheet_words.specs.Word as Words;
+ghost use Rattle.sheet_record.specs.Word as Words;
 ghost use Rattle.sheet_record.specs.Record as Spec;
 
 use arrayvec::ArrayVec;
 use elementary::error::Refusal;
-use room::MAX_CONTACTS;
+use motion::capacity::MAX_CONTACTS;
 
 // Angles, speeds and distances count 1/1024, the TCPA limit seconds. Categories and the visibility are numbers: a record has what the words
 // say, also what the checks refuse (number 16).
@@ -40,14 +43,14 @@ pub struct Row {
 fn value_at(bytes: &[u8], i: usize) -> u32
     ensures { result ≡ Spec.value_at (Words.words bytes.now) i }
 {
-    sheet_words::value_of(sheet_words::word_at(bytes, i))
+    crate::word::value_of(crate::word::word_at(bytes, i))
 }
 
 // Where the wind comes from, if the sheet tells it.
 fn wind_of(bytes: &[u8]) -> Option<u32>
     ensures { result ≡ Spec.wind_of (Words.words bytes.now) }
 {
-    sheet_words::has_wind(bytes).then(|| value_at(bytes, 9))
+    crate::word::has_wind(bytes).then(|| value_at(bytes, 9))
 }
 
 // The header of a sheet; what is not there is 0, and an unknown wind.
@@ -70,19 +73,19 @@ pub fn header_of(bytes: &[u8]) -> Header
 }
 
 // The whole contacts that follow the header, each as its six words.
-#[tactic(auto, using(crate::proofs::Filling::counted, crate::proofs::Filling::six_words))]
+#[tactic(auto, using(crate::proofs::RecordCode::counted, crate::proofs::RecordCode::six_words))]
 fn contacts(bytes: &[u8]) -> &[[[u8; 4]; 6]]
     ensures count { length result.now ≡ Spec.contact_count (Words.words bytes.now) }
     ensures words { (i : ℕ) → (other : List (List ℕ)) → i < length result.now → map (from_le_bytes w32) (get_or result.now i other) ≡ Spec.contact_at (Words.words bytes.now) i }
 {
-    let words = sheet_words::words_of(bytes);
-    let header = sheet_words::header_length(bytes).min(words.len());
+    let words = crate::word::words_of(bytes);
+    let header = crate::word::header_length(bytes).min(words.len());
     let (contacts, _) = words[header..].as_chunks::<6>();
     contacts
 }
 
 // How many whole contacts follow the header.
-pub fn contact_count(bytes: &[u8]) -> usize
+fn contact_count(bytes: &[u8]) -> usize
     ensures { result ≡ Spec.contact_count (Words.words bytes.now) }
 {
     contacts(bytes).len()
@@ -92,7 +95,7 @@ pub fn contact_count(bytes: &[u8]) -> usize
 fn value_in(word: &[u8; 4]) -> u32
     ensures { result ≡ Words.value (from_le_bytes w32 word.now) }
 {
-    sheet_words::value_of(u32::from_le_bytes(*word))
+    crate::word::value_of(u32::from_le_bytes(*word))
 }
 
 // The contact of six words.
@@ -116,19 +119,19 @@ pub fn rows_of(bytes: &[u8]) -> ArrayVec<Row, MAX_CONTACTS>
     ensures { result.items ≡ Spec.rows_of (Words.words bytes.now) }
 {
     let mut rows = ArrayVec::new();
-    for contact in room::first(contacts(bytes)) {
+    for contact in motion::capacity::first(contacts(bytes)) {
         rows.push(row_of(contact));
     }
     rows
 }
 
 // The layout, then the count of contacts.
-#[tactic(auto, unfolding(crate::specs::Record::readable, arguments::specs::Check::verdict))]
+#[tactic(auto, unfolding(crate::specs::Record::readable, motion::specs::Check::verdict))]
 pub fn check_layout(bytes: &[u8]) -> Result<(), Refusal>
     ensures { result ≡ Spec.readable bytes.now }
 {
-    arguments::ensure(sheet_words::in_layout(bytes), Refusal::Layout)?;
-    arguments::ensure(
+    motion::argument::ensure(crate::word::in_layout(bytes), Refusal::Layout)?;
+    motion::argument::ensure(
         contact_count(bytes) <= MAX_CONTACTS,
         Refusal::TooManyContacts,
     )

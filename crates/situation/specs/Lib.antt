@@ -1,4 +1,4 @@
--- Situations, and the checks of arguments.
-pub mod Codes
+-- Two vessels that meet: what they are, where and how they move, in what visibility and wind.
 pub mod Arguments
+pub mod Codes
 pub mod Situation

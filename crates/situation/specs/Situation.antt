@@ -30,13 +30,13 @@ unfoldable pub with_heading : Party → Direction → Party
 with_heading p heading = record { motion = p.motion; heading = Some heading; category = p.category }
 
 -- a direction, another where it is unknown
-abbrev pub or_else : Option Direction → Direction → Direction
-or_else None other = other
-or_else (Some d) other = d
+abbrev pub optional_or : Option Direction → Direction → Direction
+optional_or None other = other
+optional_or (Some d) other = d
 
 -- the heading defaults to the course
 unfoldable pub heading : Party → Direction
-heading p = or_else p.heading p.motion.course
+heading p = optional_or p.heading p.motion.course
 
 unfoldable pub situation : Party → Party → Contact → Visibility → Situation
 situation own target contact visibility = record { own = own; target = target; contact = contact; visibility = visibility; wind_from = None }

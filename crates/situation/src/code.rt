@@ -1,24 +1,30 @@
-// Categories and visibilities from the numbers that stand for them in a sheet and in the C interface.
+// Categories and visibilities from the numbers that stand for them, in a sheet and in the C exports.
 ghost use Rattle.std.specs.Prelude.{◌≡◌};
 ghost use Rattle.situation.specs.Codes as Spec;
 
 use crate::party::{Tack, VesselCategory, Visibility};
 
-// 0 power-driven, 1 to 3 sailing, on the tacks that the caller has in this order, 4 fishing, 5 constrained by her draught, 6 restricted in
-// her ability to manoeuvre; any other number is not under command.
-#[tactic(auto, unfolding(crate::specs::Codes::category_by))]
-pub fn category(code: u32, first: Tack, second: Tack, third: Tack) -> VesselCategory
-    ensures { result ≡ Spec.category_by first second third code }
-{
-    match code {
-        0 => VesselCategory::PowerDriven,
-        1 => VesselCategory::Sailing { tack: first },
-        2 => VesselCategory::Sailing { tack: second },
-        3 => VesselCategory::Sailing { tack: third },
-        4 => VesselCategory::Fishing,
-        5 => VesselCategory::ConstrainedByDraught,
-        6 => VesselCategory::RestrictedInAbilityToManoeuvre,
-        _ => VesselCategory::NotUnderCommand,
+// 0 power-driven, 1 to 3 sailing, on an unknown tack, the port tack and the starboard tack, 4 fishing, 5 constrained by her draught, 6 restricted
+// in her ability to manoeuvre; any other number is not under command.
+impl From<u32> for VesselCategory {
+    ghost from_gives = { λ code result. result ≡ Spec.category_of code };
+
+    #[tactic(auto, unfolding(crate::specs::Codes::category_of))]
+    fn from(code: u32) -> VesselCategory {
+        match code {
+            0 => VesselCategory::PowerDriven,
+            1 => VesselCategory::Sailing {
+                tack: Tack::Unknown,
+            },
+            2 => VesselCategory::Sailing { tack: Tack::Port },
+            3 => VesselCategory::Sailing {
+                tack: Tack::Starboard,
+            },
+            4 => VesselCategory::Fishing,
+            5 => VesselCategory::ConstrainedByDraught,
+            6 => VesselCategory::RestrictedInAbilityToManoeuvre,
+            _ => VesselCategory::NotUnderCommand,
+        }
     }
 }
 

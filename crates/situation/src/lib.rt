@@ -1,5 +1,4 @@
-// Two vessels that meet: what they are, where and how they move, in what visibility and wind; and the checks of arguments. From
-// kinavis-colregs, lib.rs.
+// Two vessels that meet: what they are, where and how they move, in what visibility and wind.
 #![tactic(auto)]
 
 pub mod check;

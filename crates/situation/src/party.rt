@@ -6,7 +6,7 @@ use motion::units::Direction;
 use motion::vessel::{Contact, Vessel};
 
 // The side of a sailing vessel that the wind is on.
-// Three values and no `Option<Side>`: Rule 12(a)(iii) names the unknown tack, and `duties::by_tacks` matches on it beside the others.
+// Three values and no `Option<Side>`: Rule 12(a)(iii) names the unknown tack, and `sailing_vessels` of colregs matches on it beside the others.
 #[derive(Clone, Copy)]
 pub enum Tack {
     Port,

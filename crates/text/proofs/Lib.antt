@@ -1,5 +1,8 @@
--- What the functions' proofs share, and the laws of appending for the crates above.
+-- Laws, and what code owes.
 pub mod Appending
+pub mod Corners
 pub mod Digits
 pub mod Joined
+pub mod Places
+pub mod Printed
 pub mod Value

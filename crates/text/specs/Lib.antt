@@ -1,4 +1,6 @@
--- Text and the numbers in it.
-pub mod Text
+-- Text within a fixed room: bytes, whole numbers, quantities with three decimals.
 pub mod Decimal
 pub mod Line
+pub mod Number
+pub mod Text
+pub mod Thousandths

@@ -2,6 +2,9 @@
 // every piece; whoever shows that a text fits has it whole.
 #![tactic(auto)]
 
+pub mod decimal;
+pub mod number;
+
 ghost use Rattle.std.specs.Prelude.{◌≡◌, ◌≤◌, [], ◌∷◌, length};
 ghost use Rattle.text.specs.Text.{room, appended};
 ghost use Rattle.std.specs.Prelude.{ℕ, List};

@@ -168,11 +168,18 @@ impl Case for Search {
         }
     }
 
+    fn asked(&self) -> port::Call<Vec<u64>> {
+        let [own_course, own_speed, desired, least, most] = self.floats[..5].try_into().unwrap();
+        let contacts = self.floats[5..].chunks_exact(4).map(|entry| entry.try_into().unwrap());
+        port::search([own_course, own_speed], contacts, (desired, least, most, None, self.sides))
+    }
+
     fn difference(&self, i: u64, wanted: &SearchWords) -> Option<String> {
         // Where nothing is found every part takes the whole search.
         let all = wanted[0] == 1;
         let parts = (0..5u32).filter(|part| all || *part == 0 || u64::from(*part) == i % 5);
-        let words = differing(parts, wanted, |part| port::search(part, self.sides, self.count, &self.floats))?;
+        let call = self.asked();
+        let words = differing(parts, wanted, |part| call.part(part + 1))?;
         Some(format!("sides {}, {} contacts, {:?}, {words}", self.sides, self.count, self.floats))
     }
 }

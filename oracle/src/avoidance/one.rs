@@ -67,7 +67,7 @@ const STATED: &[(usize, u64, u64, f64, f64)] = &[
     (6, 0, 0, 2.5, 2.5),
     (15, 0, 0, 180.0, 0.1),
     (16, 0, 1, -180.0, 0.1),
-    (21, 4, 0, 0.0, 0.0),
+    (21, 1, 0, 0.0, 0.0),
     (22, 1, 0, 0.0, 0.0),
     (23, 2, 0, 0.0, 0.0),
     (24, 3, 0, 0.0, 0.0),
@@ -155,11 +155,14 @@ impl Avoid {
         case
     }
 
-    pub fn port(&self, part: u32) -> u64 {
+    fn call(&self) -> port::Contact {
         let [own_course, own_speed, bearing, range, course, speed, desired] = self.encounter;
         let Limits { least, most, rate } = self.limits;
-        let (has_rate, rate) = (u32::from(self.has_rate), rate.unwrap_or(f64::NAN));
-        port::avoid(part, self.sides, has_rate, own_course, own_speed, bearing, range, course, speed, desired, least, most, rate)
+        port::avoid([own_course, own_speed], [bearing, range, course, speed], (desired, least, most, rate, self.sides))
+    }
+
+    pub fn port(&self, part: u32) -> u64 {
+        self.call().part(part)
     }
 }
 
@@ -191,12 +194,11 @@ impl Case for Avoid {
     }
 
     fn reference(&self) -> AvoidWords {
-        match constraints(SIDES[self.sides as usize], self.limits) {
+        let asked = || match constraints(SIDES[self.sides as usize], self.limits) {
             Err(_) => refused(CONSTRAINTS),
-            Ok(made) => {
-                first_bad(KINDS.into_iter().zip(self.encounter)).map_or_else(|| avoid(&made, self.encounter.map(f64::to_bits)), refused)
-            }
-        }
+            Ok(made) => avoid(&made, self.encounter.map(f64::to_bits)),
+        };
+        first_bad(KINDS.into_iter().zip(self.encounter)).map_or_else(asked, refused)
     }
 
     fn count(&self, answer: &AvoidWords, tally: &mut AvoidTally) {
@@ -214,6 +216,11 @@ impl Case for Avoid {
         }
     }
 
+    fn asked(&self) -> port::Call<Vec<u64>> {
+        let call = self.call();
+        port::Call { which: call.which, words: call.words.to_vec() }
+    }
+
     fn difference(&self, _: u64, wanted: &AvoidWords) -> Option<String> {
         let words = differing(0..9, wanted, |part| self.port(part))?;
         let Limits { least, most, rate } = self.limits;
@@ -225,23 +232,4 @@ impl Case for Avoid {
 pub fn answered(count: usize) -> Vec<Avoid> {
     let mut random = Random::new(5);
     std::iter::repeat_with(|| Avoid::random(&mut random)).filter(|case| case.reference()[0] == 0).take(count).collect()
-}
-
-/// The function's number in the records.
-const AVOID: u64 = 9;
-
-/// Adds records and answers of `avoid`: codes of the sides and of whether a rate is given, and ten floats. An answer is the port's once
-/// it is known to be the Rust's.
-pub fn write(module: &mut Module) {
-    let mut random = Random::new(23);
-    for i in 0..150 {
-        let case = Avoid::case(i, 200, &mut random);
-        assert_eq!(case.difference(i, &case.reference()), None);
-        let Limits { least, most, rate } = case.limits;
-        let floats = case.encounter.into_iter().chain([least, most, rate.unwrap_or(0.0)]).map(f64::to_bits);
-        let words: Vec<u64> = [u64::from(case.sides), u64::from(case.has_rate)].into_iter().chain(floats).collect();
-        for part in 0..9 {
-            module.push(AVOID, part, words.iter().copied(), case.port(part));
-        }
-    }
 }

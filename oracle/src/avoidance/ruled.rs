@@ -152,7 +152,7 @@ impl RuledCase {
     }
 
     pub fn port(&self, part: u32) -> u64 {
-        port::ruled(part, self.codes, self.count, &self.floats)
+        self.asked().part(part)
     }
 
     /// The arguments of the reference, where none is bad.
@@ -207,7 +207,7 @@ impl Case for RuledCase {
 
     fn reference(&self) -> Ruled {
         let limits = self.limits();
-        let number = if constraints(SIDES[0], limits).is_err() { Some(CONSTRAINTS) } else { self.bad() };
+        let number = self.bad().or(constraints(SIDES[0], limits).is_err().then_some(CONSTRAINTS));
         match number {
             Some(number) => Ruled { words: refused(number), shared: (false, false), tie: false },
             None => {
@@ -239,11 +239,20 @@ impl Case for RuledCase {
         }
     }
 
+    fn asked(&self) -> port::Call<Vec<u64>> {
+        let contacts = (0..self.count.min(2 * MAX_CONTACTS)).map(|place| self.entry(place));
+        let kind = (self.codes & CATEGORY, self.given(OWN_HEADING, 2));
+        let Limits { least, most, rate } = self.limits();
+        let turn = (self.at(4), least, most, rate, 0);
+        port::ruled([self.at(0), self.at(1)], contacts, kind, self.codes & RESTRICTED != 0, self.given(WIND, 3), turn)
+    }
+
     fn difference(&self, i: u64, wanted: &Ruled) -> Option<String> {
         // Where nothing clears every part takes the whole search.
         let all = wanted.words[0] != 5;
         let parts = (0..9u32).filter(|part| all || *part == 0 || u64::from(*part) == i % 9);
-        let words = differing(parts, &wanted.words, |part| self.port(part))?;
+        let call = self.asked();
+        let words = differing(parts, &wanted.words, |part| call.part(part))?;
         Some(format!("codes {:07b}, {} contacts, {:?}, {words}", self.codes, self.count, self.floats))
     }
 }

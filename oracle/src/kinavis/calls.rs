@@ -126,9 +126,9 @@ pub const WIND: u32 = 1 << 9;
 /// The categories, in the order of their codes.
 pub const CATEGORIES: [VesselCategory; 8] = [
     VesselCategory::PowerDriven,
+    VesselCategory::Sailing { tack: None },
     VesselCategory::Sailing { tack: Some(Tack::Port) },
     VesselCategory::Sailing { tack: Some(Tack::Starboard) },
-    VesselCategory::Sailing { tack: None },
     VesselCategory::Fishing,
     VesselCategory::ConstrainedByDraught,
     VesselCategory::RestrictedInAbilityToManoeuvre,

@@ -52,7 +52,7 @@ pub fn assess([own_course, own_speed, bearing, range, course, speed, limit, secs
     [0, relative_course, relative_speed, drift, has_cpa, near, bearing_at_cpa, secs, nanos, crosses, ahead, risk, range, bearing]
 }
 
-/// The picture of up to 32 contacts that are assessed, with the remainder of their place by 5 as their number: its length, the range of the
+/// The picture of up to 32 contacts that are assessed, numbered from 0 to 4 over and over: its length, the range of the
 /// most dangerous target and of the first target of each number, and for each risk how many are of at least that and the range of the most
 /// dangerous of them. A list of encounters that are accepted or not (`None`).
 pub fn picture(limit: f64, secs: u64, own: [u64; 2], contacts: &[Option<[u64; 4]>]) -> Option<PictureWords> {
@@ -60,8 +60,7 @@ pub fn picture(limit: f64, secs: u64, own: [u64; 2], contacts: &[Option<[u64; 4]
     let assessed = |&[bearing, range, course, speed]: &[u64; 4]| {
         assessed(vessel(own[0], own[1]), contact(bearing, range), vessel(course, speed), &policy).expect("accepted arguments")
     };
-    let of = |(place, encounter): (usize, &Option<[u64; 4]>)| encounter.as_ref().map(|e| (place % 5, assessed(e)));
-    let list: Vec<_> = contacts.iter().enumerate().filter_map(of).collect();
+    let list: Vec<_> = contacts.iter().flatten().enumerate().map(|(place, e)| (place % 5, assessed(e))).collect();
     let whole = all::<32>(&list)?;
     let range = |target: Option<&TargetAssessment>| target.map_or(0, |t| miles(t.assessment.range()));
     let mut words = [0; 15];

@@ -1,9 +1,9 @@
 use mathlib.Core.Path.{refl, ◌∙◌}
 use native.Mathlib.Omega.{arith}
-use Rattle.arguments.proofs.Checks.{handed_on}
-use Rattle.arguments.proofs.Lists.{passed, stopped, ended}
+use Rattle.motion.proofs.ArgumentCode.{handed_on}
+use Rattle.motion.proofs.Lists.{passed, stopped, ended}
 use Rattle.sheet.specs.Sheet.{category_checks}
-use Rattle.sheet.proofs.Steps.{code_check}
+use Rattle.sheet.proofs.SheetCode.{code_check}
 use Rattle.sheet.proofs.check_categories.Goals as goal
 
 pub loop-row-init : goal.loop-row-init

@@ -1,5 +1,5 @@
 use Rattle.std.specs.Prelude.{◌≡◌, drop}
-use Rattle.arguments.specs.Check.{checked}
+use Rattle.motion.specs.Check.{checked}
 use Rattle.sheet.specs.Sheet.{category_checks}
 use Rattle.sheet.proofs.check_categories.Given as goal
 

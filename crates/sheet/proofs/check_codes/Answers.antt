@@ -1,7 +1,7 @@
 use Rattle.std.specs.Prelude.{[], ◌∷◌}
-use Rattle.arguments.specs.Check.{check}
+use Rattle.motion.specs.Check.{check}
 use Rattle.sheet.specs.Sheet.{code_checks}
-use Rattle.arguments.proofs.Checks.{refused_by, accepted}
+use Rattle.motion.proofs.ArgumentCode.{refused_by, accepted}
 use Rattle.sheet.proofs.check_codes.Goals as goal
 
 pub returns-in_err-ensure : goal.returns-in_err-ensure

@@ -1,10 +1,10 @@
 use Rattle.std.specs.Prelude.{map}
 use mathlib.Core.Path.{ap, ◌∙◌}
-use Rattle.arguments.specs.Check.{checked}
-use Rattle.arguments.proofs.Checks.{handed_on, refused, accepted}
-use Rattle.sheet_values.specs.Values.{entry_of}
+use Rattle.motion.specs.Check.{checked}
+use Rattle.motion.proofs.ArgumentCode.{handed_on, refused, accepted}
+use Rattle.sheet.specs.Values.{entry_of}
 use Rattle.sheet.specs.Sheet.{code_checks, value_checks}
-use Rattle.sheet.proofs.Steps.{unreadable, readable_as}
+use Rattle.sheet.proofs.SheetCode.{unreadable, readable_as}
 use Rattle.sheet.proofs.check_sheet.Goals as goal
 
 pub returns-in_err-check_layout : goal.returns-in_err-check_layout

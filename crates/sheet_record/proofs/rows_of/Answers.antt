@@ -2,9 +2,9 @@ use native.Mathlib.Omega.{arith}
 use mathlib.Core.Path.{ap, ◌∙◌}
 use lib.ListN.{length}
 use Rattle.std.proofs.Common.{lit<}
-use Rattle.sheet_words.specs.Word.{words}
+use Rattle.sheet_record.specs.Word.{words}
 use Rattle.sheet_record.specs.Record.{first_rows}
-use Rattle.sheet_record.proofs.Filling.{one_more, made_row, all_read, as_many}
+use Rattle.sheet_record.proofs.RecordCode.{one_more, made_row, all_read, as_many}
 use Rattle.sheet_record.proofs.rows_of.Goals as goal
 
 pub loop-contact-init : goal.loop-contact-init

@@ -1,5 +1,5 @@
 use Rattle.std.specs.Prelude.{◌≡◌}
-use Rattle.sheet_words.specs.Word.{words}
+use Rattle.sheet_record.specs.Word.{words}
 use Rattle.sheet_record.specs.Record.{first_rows}
 use Rattle.sheet_record.proofs.rows_of.Given as goal
 

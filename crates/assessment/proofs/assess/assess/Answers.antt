@@ -1,8 +1,8 @@
 use mathlib.Core.Path.{◌∙◌}
-use Rattle.arguments.specs.Check.{encounter_checks}
-use Rattle.policy.specs.Policy.{policy_checks}
-use Rattle.arguments.proofs.Checks.{handed_on, refused as refused_first, accepted}
-use Rattle.assessment.proofs.Assessed.{answered, refused}
+use Rattle.motion.specs.Check.{encounter_checks}
+use Rattle.assessment.specs.Policy.{policy_checks}
+use Rattle.motion.proofs.ArgumentCode.{handed_on, refused as refused_first, accepted}
+use Rattle.assessment.proofs.AssessCode.{answered, refused}
 use Rattle.assessment.proofs.assess.assess.Goals as goal
 
 pub returns-in_err-check_encounter : goal.returns-in_err-check_encounter

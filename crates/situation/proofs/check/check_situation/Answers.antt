@@ -1,6 +1,6 @@
-use Rattle.arguments.specs.Check.{contact_checks}
+use Rattle.motion.specs.Check.{contact_checks}
 use Rattle.situation.specs.Arguments.{party_checks, situation_checks}
-use Rattle.arguments.proofs.Checks.{refused_by, accepted}
+use Rattle.motion.proofs.ArgumentCode.{refused_by, accepted}
 use Rattle.situation.proofs.check.check_situation.Goals as goal
 
 pub returns-in_err-check_party : goal.returns-in_err-check_party
@@ -17,4 +17,4 @@ returns-in_err-check_party-2 c = accepted (party_checks c.args.s.own) _ _ _ c.in
 
 pub returns : goal.returns
 unfolding situation_checks
-returns c = accepted (party_checks c.args.s.own) _ _ _ c.in_ok-check_party.ensures (accepted (contact_checks c.args.s.contact) _ _ _ c.in_ok-check_contact.ensures (accepted (party_checks c.args.s.target) _ _ _ c.in_ok-check_party-2.ensures c.check_perhaps.ensures))
+returns c = accepted (party_checks c.args.s.own) _ _ _ c.in_ok-check_party.ensures (accepted (contact_checks c.args.s.contact) _ _ _ c.in_ok-check_contact.ensures (accepted (party_checks c.args.s.target) _ _ _ c.in_ok-check_party-2.ensures c.check_optional.ensures))

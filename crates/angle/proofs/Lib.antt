@@ -1,3 +1,0 @@
--- Laws on the folds.
-pub mod Branches
-pub mod Range

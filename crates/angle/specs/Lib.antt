@@ -1,2 +1,0 @@
--- The folds of directions.
-pub mod Fold

@@ -1,6 +1,0 @@
-use Rattle.grid.specs.Arcsine.{fits_in}
-use Rattle.arcs.proofs.FitsInGoal.holds.Goals as goal
-
-pub returns : goal.returns
-unfolding fits_in
-returns c = let r = c.rest_at.ensures.0 in let t = c.twice.ensures.0 in cc

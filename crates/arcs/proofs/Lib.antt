@@ -1,2 +1,0 @@
--- What the code of the searches owes.
-pub mod Checks

@@ -1,2 +1,0 @@
--- What is searched for.
-pub mod Goal

@@ -1,2 +1,0 @@
--- Laws on the arcsine of f64s.
-pub mod Arcsines

@@ -1,2 +1,0 @@
--- Arcsine of f64s.
-pub mod Asin

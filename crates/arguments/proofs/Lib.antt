@@ -1,3 +1,0 @@
--- Laws on checks.
-pub mod Checks
-pub mod Lists

@@ -1,2 +1,0 @@
--- The checks of arguments.
-pub mod Check

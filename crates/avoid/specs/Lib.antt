@@ -1,2 +1,0 @@
--- The avoidance of one contact.
-pub mod Avoid

@@ -1,2 +1,0 @@
--- What the arguments of avoidance owe.
-pub mod Filling

@@ -1,2 +1,0 @@
--- Arguments of avoidance from codes and floats.
-pub mod Codes

@@ -1,2 +1,0 @@
--- The parts of a manoeuvre as words.
-pub mod Words

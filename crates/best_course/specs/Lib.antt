@@ -1,2 +1,0 @@
--- The best course of each side.
-pub mod Offers

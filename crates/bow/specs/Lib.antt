@@ -1,2 +1,0 @@
--- The bow crossing.
-pub mod Bow

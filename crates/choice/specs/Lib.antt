@@ -1,2 +1,0 @@
--- The smallest trial that clears.
-pub mod Choice

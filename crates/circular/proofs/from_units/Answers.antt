@@ -1,7 +1,0 @@
-use lib.Ieee.{of_bits}
-use Rattle.circular.proofs.Steps.{grid_is}
-use Rattle.circular.proofs.from_units.Goals as goal
-
-pub returns : goal.returns
-unfolding of_bits
-returns c = grid_is c.args.minus c.args.v c.requires c.multiple.result c.multiple.ensures.product

@@ -1,0 +1,4 @@
+-- Laws, and what code owes.
+pub mod ClearsCode
+pub mod Held
+pub mod Loops

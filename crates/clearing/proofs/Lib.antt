@@ -1,2 +1,0 @@
--- What the code of clearing owes, and its laws.
-pub mod Loop

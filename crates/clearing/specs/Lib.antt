@@ -1,2 +1,0 @@
--- Whether the traffic is clear on a course.
-pub mod Clearing

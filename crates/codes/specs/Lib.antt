@@ -1,2 +1,0 @@
--- Values of the C exports.
-pub mod Codes

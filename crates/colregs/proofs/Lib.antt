@@ -1,0 +1,7 @@
+-- Laws, and what code owes.
+pub mod Departures
+pub mod Reliable
+pub mod ResponsibilityCode
+pub mod Rows
+pub mod RulesCode
+pub mod Settled

@@ -1,2 +1,0 @@
--- The constraints of a manoeuvre.
-pub mod Constraints

@@ -1,2 +1,0 @@
--- The lines on a sheet's contacts.
-pub mod Contacts

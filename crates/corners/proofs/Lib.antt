@@ -1,0 +1,3 @@
+-- Laws, and what code owes.
+pub mod Figures
+pub mod Table

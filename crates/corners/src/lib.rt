@@ -1,0 +1,2 @@
+// Document 01's corners and sample sheet, proved.
+#![tactic(auto)]

@@ -1,4 +1,0 @@
--- What the functions' proofs share.
-pub mod Places
-pub mod Printed
-pub mod Corners

@@ -1,2 +1,0 @@
--- A quantity in thousandths.
-pub mod Thousandths

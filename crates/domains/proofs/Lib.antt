@@ -1,2 +1,0 @@
--- Laws on the refusing functions.
-pub mod Answers

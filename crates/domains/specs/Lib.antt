@@ -1,2 +1,0 @@
--- The refusing functions.
-pub mod Checked

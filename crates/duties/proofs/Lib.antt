@@ -1,2 +1,0 @@
--- Who keeps out of the way.
-pub mod Duties

@@ -1,2 +1,0 @@
--- What a rule says, as a decision.
-pub mod Says

@@ -1,9 +1,0 @@
-use mathlib.Core.Path.{ap, ◌∙◌}
-use Rattle.encoding.specs.Encode.{encode}
-use Rattle.encoding.proofs.Rows.{whole_sheet}
-use Rattle.encoding.proofs.encode.Goals as goal
-
-pub returns : goal.returns
-returns c =
-    whole_sheet _ _ _ _ _ c.first.ensures.fits c.blank-t.ensures c.put_header.ensures c.each.ensures
-    ∙ ap (encode c.args.h) c.first.ensures.value

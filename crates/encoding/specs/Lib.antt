@@ -1,2 +1,0 @@
--- A sheet's record as its bytes.
-pub mod Encode

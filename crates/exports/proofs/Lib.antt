@@ -1,0 +1,3 @@
+-- What code owes.
+pub mod ArgumentsCode
+pub mod Patterns

@@ -1,0 +1,54 @@
+-- What the C exports ask, with limits and constraints that may be refused themselves: what document 01 checks before them decides first ('The answers by number': the order of arguments).
+use Rattle.std.specs.Prelude.{List, map, ℕ, length, Some, Ok, Err}
+use Rattle.std.specs.declared.option.Option.{Option}
+use Rattle.std.specs.declared.result.Result.{Result}
+use Rattle.elementary.specs.declared.error.Refusal.{Refusal}
+use Rattle.motion.specs.Check.{checked, encounter_checks, distance_checks}
+use Rattle.situation.specs.Arguments.{party_checks, optional_checks}
+use Rattle.assessment.specs.declared.assess.CollisionAssessment.{CollisionAssessment}
+use Rattle.assessment.specs.Assess.{assess_answer}
+use Rattle.manoeuvre.specs.declared.AvoidanceManoeuvre.{AvoidanceManoeuvre}
+use Rattle.manoeuvre.specs.Constraints.{permits}
+use Rattle.clearance.specs.Clearing.{floor_of, moving}
+use Rattle.clearance.specs.Traffic.{count_checks, contacts_checks, targets}
+use Rattle.avoidance.specs.declared.search.Chosen.{Chosen}
+use Rattle.avoidance.specs.Search.{smallest}
+use Rattle.avoidance.specs.Avoid.{avoid_answer}
+use Rattle.ruled_search.specs.declared.RuledManoeuvre.{RuledManoeuvre}
+use Rattle.ruled_search.specs.Ruled.{ruled_answer}
+use Rattle.exports.specs.Arguments.{own, around, desired, sides, constraints, policy, contacts, entry, entries, float, code}
+
+-- what is asked of one that may be refused
+abbrev pub given : {A B : Type 0} → Result A Refusal → (A → Result B Refusal) → Result B Refusal
+given (Ok a) ask = ask a
+given (Err why) ask = Err why
+
+abbrev pub after : {B : Type 0} → Result (Unit {0}) Refusal → Result B Refusal → Result B Refusal
+after (Ok tt) answer = answer
+after (Err why) answer = Err why
+
+-- own craft, contact and target, then the limits
+abbrev pub assess_asked : List ℕ → Result CollisionAssessment Refusal
+assess_asked ws =
+    let v = (own ws).motion in
+    let e = entry ws 0 in
+    after (checked (encounter_checks v e.contact e.target.motion)) (given (policy ws) (assess_answer v e.contact e.target.motion))
+
+-- own craft, contact, target and the desired distance, then the constraints
+abbrev pub avoid_asked : List ℕ → Result AvoidanceManoeuvre Refusal
+avoid_asked ws =
+    let v = (own ws).motion in
+    let e = entry ws 0 in
+    after (checked (encounter_checks v e.contact e.target.motion)) (after (checked (distance_checks (desired ws))) (given (constraints ws) (avoid_answer v e.contact e.target.motion (desired ws))))
+
+-- the count, own craft, the contacts, the wind and the desired distance, then the constraints
+abbrev pub ruled_asked : List ℕ → Result RuledManoeuvre Refusal
+ruled_asked ws =
+    let a = around ws in
+    let es = entries ws in
+    after (checked (count_checks (length (contacts ws)))) (after (checked (party_checks a.own)) (after (checked (contacts_checks es)) (after (checked (optional_checks a.wind_from)) (after (checked (distance_checks (desired ws)))
+    (given (constraints ws) (ruled_answer a.own (length es) es a.visibility a.wind_from (desired ws)))))))
+
+-- the search alone, on the sides and between the alterations that the words say
+abbrev pub search_asked : List ℕ → Option Chosen
+search_asked ws = smallest (own ws).motion (floor_of (desired ws)) (map moving (targets (entries ws))) (permits (sides (code ws 13))) (float ws 9) (float ws 10)

@@ -1,2 +1,0 @@
--- The words of the C exports.
-pub mod Words

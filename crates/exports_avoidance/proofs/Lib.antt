@@ -1,2 +1,0 @@
--- What the exports of avoidance owe.
-pub mod Made

@@ -1,2 +1,0 @@
--- C exports of plots and courses.
-pub mod Words

@@ -1,0 +1,2 @@
+-- C exports of the leaves and of the six functions, for the comparison with the Rust.
+pub mod Time

@@ -1,2 +1,0 @@
--- The loop that makes the picture.
-pub mod Making

@@ -1,2 +1,0 @@
--- The collision picture as the C exports have it.
-pub mod Words

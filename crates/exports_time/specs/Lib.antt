@@ -1,2 +1,0 @@
--- What the exports hand over of a time.
-pub mod Time

@@ -1,2 +1,0 @@
--- The facts of a situation.
-pub mod Facts

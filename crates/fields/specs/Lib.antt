@@ -1,2 +1,0 @@
--- The fields of a line that are numbers, the approach and the risk.
-pub mod Fields

@@ -1,2 +1,0 @@
--- Arctangent of f64s.
-pub mod Atan2

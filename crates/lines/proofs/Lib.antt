@@ -1,0 +1,2 @@
+-- Laws, and what code owes.
+pub mod Short

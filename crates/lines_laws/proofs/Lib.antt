@@ -1,2 +1,0 @@
--- What is proved of the lines beyond the functions' contracts.
-pub mod Short

@@ -1,0 +1,3 @@
+-- Laws, and what code owes.
+pub mod Climbing
+pub mod Listed

@@ -1,2 +1,0 @@
--- What is proved of relative motion.
-pub mod Sound

@@ -1,2 +1,0 @@
-// Laws on relative motion: its answers are finite, its functions are called inside their domains. There is no code.
-#![tactic(auto)]

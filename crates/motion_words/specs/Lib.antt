@@ -1,2 +1,0 @@
--- C exports of relative motion.
-pub mod Words

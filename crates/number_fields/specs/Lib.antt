@@ -1,2 +1,0 @@
--- The fields that are quantities.
-pub mod Fields

@@ -1,2 +1,0 @@
--- What one contact does to a course.
-pub mod Passages

@@ -1,2 +1,0 @@
--- What the code of the picture owes.
-pub mod Loops

@@ -1,2 +1,0 @@
--- The collision picture.
-pub mod Picture

@@ -1,2 +1,0 @@
--- A target's course and speed from two plots.
-pub mod Plot

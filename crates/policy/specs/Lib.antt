@@ -1,2 +1,0 @@
--- The limits of an assessment.
-pub mod Policy

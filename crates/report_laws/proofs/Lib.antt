@@ -1,5 +1,0 @@
--- Laws on the report.
-pub mod Accepted
-pub mod Answered
-pub mod Reports
-pub mod Before

@@ -1,2 +1,0 @@
--- What the code of the drift and the risk owes.
-pub mod Owed

@@ -1,2 +1,0 @@
--- Drift and risk.
-pub mod Risk

@@ -1,3 +1,0 @@
--- Laws on counts and the room.
-pub mod Counts
-pub mod Made

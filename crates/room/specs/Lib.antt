@@ -1,2 +1,0 @@
--- The room for contacts.
-pub mod Room

@@ -1,5 +1,0 @@
-use Rattle.root.proofs.SqrtCode.{pattern_is}
-use Rattle.root.proofs.Scaled.root_pattern.Goals as goal
-
-pub returns : goal.returns
-returns c = let n = c.args.self in pattern_is n.m n.j n.leading n.digits _ n.least n.most c.nearest_root-r.ensures

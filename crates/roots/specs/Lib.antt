@@ -1,0 +1,5 @@
+-- Square root and hypotenuse.
+pub mod Digits
+pub mod Hypot
+pub mod Root
+pub mod Sqrt

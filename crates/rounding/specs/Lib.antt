@@ -1,3 +1,0 @@
--- Rounding to whole numbers.
-pub mod Cast
-pub mod Whole

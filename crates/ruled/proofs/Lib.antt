@@ -1,3 +1,0 @@
--- What the code of the ruled search owes.
-pub mod Held
-pub mod Steps

@@ -1,0 +1,7 @@
+-- Laws, and what code owes.
+pub mod Accepted
+pub mod Contacts
+pub mod Demanded
+pub mod HeldThere
+pub mod RuledCode
+pub mod Shared

@@ -1,0 +1,4 @@
+-- The ruled search, whose contract holds demand 3.
+pub mod Demand3
+pub mod Held
+pub mod Ruled

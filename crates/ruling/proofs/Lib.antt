@@ -1,2 +1,0 @@
--- What the code of the ruling owes.
-pub mod Ruled

@@ -1,3 +1,0 @@
--- What is proved of rulings.
-pub mod Log
-pub mod Settled

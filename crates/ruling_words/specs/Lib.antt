@@ -1,2 +1,0 @@
--- Rulings as words.
-pub mod Words

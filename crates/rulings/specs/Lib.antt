@@ -1,2 +1,0 @@
--- The ruled search, as a definition.
-pub mod Ruled

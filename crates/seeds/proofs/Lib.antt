@@ -1,2 +1,0 @@
--- What the code of the seeds owes.
-pub mod Steps

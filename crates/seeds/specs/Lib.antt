@@ -1,2 +1,0 @@
--- The seeds of an avoidance.
-pub mod Seeds

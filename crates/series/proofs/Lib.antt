@@ -1,2 +1,0 @@
--- What the code of the sums owes.
-pub mod Written

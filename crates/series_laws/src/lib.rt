@@ -1,2 +1,0 @@
-// What is proved of the sums beyond the contracts of `series`: proofs/.
-#![tactic(auto)]

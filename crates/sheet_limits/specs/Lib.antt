@@ -1,2 +1,0 @@
--- What a sheet asks for.
-pub mod Limits

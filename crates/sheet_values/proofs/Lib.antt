@@ -1,2 +1,0 @@
--- What the values of a sheet owe.
-pub mod Exactly

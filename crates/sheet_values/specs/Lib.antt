@@ -1,2 +1,0 @@
--- The values of a sheet.
-pub mod Values

@@ -1,2 +1,0 @@
--- Laws on the words of a sheet.
-pub mod Words

@@ -1,2 +1,0 @@
--- The words of a sheet.
-pub mod Word

@@ -1,2 +1,0 @@
--- Situations from codes.
-pub mod Situations

@@ -1,2 +1,0 @@
--- What the collision picture asks of its targets.
-pub mod Picture

@@ -1,8 +1,0 @@
-use Rattle.std.proofs.Common.{pos, ap}
-use lib.Ieee.{binary64, add, div, of_int}
-use Rattle.time.specs.Clock.{hours_of, billion, seconds_per_hour}
-use Rattle.time.proofs.Duration.hours.Goals as goal
-
-pub returns : goal.returns
-unfolding hours_of
-returns c = ap (λ s. div binary64 (add binary64 s (div binary64 (of_int binary64 (pos c.args.self.nanos)) billion)) seconds_per_hour) c.nearest_u64_to_f64-secs.ensures

@@ -1,3 +1,0 @@
--- Laws on times.
-pub mod Order
-pub mod Seconds

@@ -1,2 +1,0 @@
--- Times and their conversions.
-pub mod Clock

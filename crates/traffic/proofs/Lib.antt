@@ -1,3 +1,0 @@
--- What the code of the traffic owes.
-pub mod Held
-pub mod Loops

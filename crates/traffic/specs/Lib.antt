@@ -1,2 +1,0 @@
--- The traffic.
-pub mod Traffic

@@ -1,3 +1,0 @@
--- Laws on the trial list.
-pub mod Climbing
-pub mod Listed

@@ -1,2 +1,0 @@
--- The trial list.
-pub mod Trials

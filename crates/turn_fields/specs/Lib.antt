@@ -1,2 +1,0 @@
--- The fields of the line on a turn.
-pub mod Fields

@@ -1,2 +1,0 @@
--- Laws on the remainder by a full turn.
-pub mod Laws

@@ -1,2 +1,0 @@
--- The remainder by a full turn.
-pub mod Turns

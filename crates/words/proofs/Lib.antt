@@ -1,2 +1,0 @@
--- A fact that the function's proof cites.
-pub mod Patterns

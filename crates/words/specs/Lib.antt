@@ -1,2 +1,0 @@
--- What the C exports of motion share.
-pub mod Words
