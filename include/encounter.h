@@ -1,6 +1,7 @@
 /* The encounter module's C interface: the report on an encounter sheet.
  *
- * Link with the archive that `rt lib` writes in crates/exports_report (out/libexports_report.a). Nothing else is needed.
+ * Link with the archive that `rt lib` writes in crates/exports_report (out/libexports_report.a).
+ * Nothing else is needed. A call needs some 35 KB of stack (docs/PERFORMANCE.md, 'Stack').
  */
 #ifndef ENCOUNTER_H
 #define ENCOUNTER_H
@@ -15,10 +16,14 @@ extern "C" {
 /* Room for every report: the lines on 32 contacts and the answer have at most 4,232 bytes. */
 #define ENCOUNTER_REPORT_ROOM 4232
 
-/* Writes what the program `encounter` prints for the sheet to the start of `out`, and returns how many bytes that are, at least one. If
- * `out` has no room for all of it, writes nothing and returns 0. Any bytes may be handed in: what is no sheet is answered with its refusal. The
- * sheet's words and the lines are described in docs/SHEET.md.
- * `sheet` and `out` must not overlap. A pointer may be null where its length is 0. Nothing is kept between calls.
+/* Writes what the program `encounter` prints for the sheet to the start of `out`, and returns how
+ * many bytes that are, at least one. If `out` has no room for all of it, writes nothing and returns
+ * 0. Any bytes may be handed in: what is no sheet is answered with its refusal. The sheet's words
+ * and the lines are described in docs/SHEET.md.
+ *
+ * The sheet is only read: the function has it by a type through which nothing can be written.
+ * `sheet` and `out` must not overlap. A pointer may be null where its length is 0. Nothing is kept
+ * between calls.
  *
  * The text is not ended by a zero byte.
  */

@@ -1,4 +1,4 @@
-//! Sine, cosine, arcsine and arctangent by whole numbers, as elementary.md has the methods, in 128-bit arithmetic.
+//! Sine, cosine, arcsine and arctangent by whole numbers, as docs/ELEMENTARY.md has the methods, in 128-bit arithmetic.
 
 use crate::big::parts;
 

@@ -147,6 +147,8 @@ const DEPARTURES: &[(Case, &str)] = &[
     (meeting(0.0, 10.0, 45.0, 5.0, 270.0, 10.0), "starboard, not port"),
     (meeting(0.0, 10.0, 315.0, 5.0, 90.0, 10.0), "hold, starboard, slow down"),
     (meeting(0.0, 5.0, 45.0, 5.0, 270.0, 10.0).of(FISHING, 0), "crossing to starboard, stand on, Rule 18, not port"),
+    (meeting(0.0, 10.0, 45.0, 5.0, 270.0, 10.0).of(BY_DRAUGHT, 0), "stand on, Rule 18, not port"),
+    (meeting(0.0, 10.0, 315.0, 5.0, 90.0, 10.0).of(0, BY_DRAUGHT), "crossing to port, give way, Rule 18"),
     (meeting(0.0, 10.0, 45.0, 5.0, 270.0, 10.0).of(BY_DRAUGHT, FISHING), "stand on, Rule 18"),
     (meeting(0.0, 10.0, 45.0, 5.0, 270.0, 10.0).of(RESTRICTED_IN_ABILITY, NOT_UNDER_COMMAND), "give way, Rule 18"),
     (meeting(0.0, 10.0, 45.0, 5.0, 270.0, 10.0).of(FISHING, NOT_UNDER_COMMAND), "give way, Rule 18"),

@@ -1,7 +1,6 @@
 -- The assessment of one contact (assessment.rs, `assess`), operation by operation.
-use Rattle.std.specs.Prelude.{◌++◌, ℕ, None, Some, Err, Ok}
+use Rattle.std.specs.Prelude.{◌++◌, None, Some, Err, Ok}
 use Rattle.roots.specs.Hypot.{hypot}
-use Rattle.elementary.specs.Refusal.{number_of}
 use Rattle.motion.specs.declared.vessel.Vessel.{Vessel}
 use Rattle.motion.specs.declared.vessel.Contact.{Contact}
 use Rattle.motion.specs.Vessel.{unit, direction_of, offset, relative_velocity}
@@ -41,7 +40,9 @@ assess_if_accepted (Ok tt) a = Ok a
 assess_if_accepted (Err why) a = Err why
 
 unfoldable pub assess_answer : Vessel → Contact → Vessel → CpaPolicy → Result CollisionAssessment Refusal
-assess_answer own contact target policy = assess_if_accepted (verdict (encounter_checks own contact target ++ policy_checks policy) (Ok tt)) (assessment own contact target policy)
+assess_answer own contact target policy =
+    assess_if_accepted (verdict (encounter_checks own contact target ++ policy_checks policy) (Ok tt))
+    (assessment own contact target policy)
 
 -- ---- what an assessment says of the closest approach
 abbrev pub cpa_distance : Option Cpa → Option Distance
@@ -55,8 +56,3 @@ tcpa (Some cpa) = Some cpa.time_to_go
 abbrev pub bearing_at_cpa : Option Cpa → Option Direction
 bearing_at_cpa None = None
 bearing_at_cpa (Some cpa) = Some cpa.bearing
-
--- document 01's number of an answer, 0 where it is answered
-abbrev pub assess_number : Result CollisionAssessment Refusal → ℕ
-assess_number (Ok a) = 0
-assess_number (Err why) = number_of why

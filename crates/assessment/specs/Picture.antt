@@ -1,4 +1,5 @@
--- The collision picture (assessment.rs, `CollisionPicture`; 01, assessment.rs: '`most_dangerous`: highest risk, then least time, then the last listed; none on an empty list').
+-- The collision picture (assessment.rs, `CollisionPicture`; 01, assessment.rs: '`most_dangerous`:
+-- highest risk, then least time, then the last listed; none on an empty list').
 use Rattle.std.specs.Prelude.{cond, List, [], ◌∷◌, ◌++◌, ℕ, ltb, length, None}
 use Rattle.laws.specs.Fold.{fold}
 use Rattle.motion.specs.Capacity.{max_contacts}

@@ -1,8 +1,7 @@
 -- The limits of an assessment (assessment.rs, `CpaPolicy`; 01, the table's rows 3 and 6).
-use Rattle.std.specs.Prelude.{List, [], ◌∷◌, ℕ, Err, Ok}
+use Rattle.std.specs.Prelude.{List, [], ◌∷◌, Err, Ok}
 use Rattle.math.specs.Clock.{is_accepted}
 use Rattle.math.specs.declared.duration.Duration.{Duration}
-use Rattle.elementary.specs.Refusal.{number_of}
 use Rattle.elementary.specs.declared.error.Refusal.TheVariants as Why
 use Rattle.motion.specs.declared.units.Distance.{Distance}
 use Rattle.std.specs.declared.result.Result.{Result}
@@ -18,9 +17,6 @@ policy_if_accepted (Ok tt) p = Ok p
 policy_if_accepted (Err why) p = Err why
 
 unfoldable pub policy_answer : Distance → Duration → Result CpaPolicy Refusal
-policy_answer limit time = let p : CpaPolicy = record { cpa_limit = limit; tcpa_limit = time } in policy_if_accepted (verdict (policy_checks p) (Ok tt)) p
-
--- document 01's number of an answer, 0 where it is answered
-abbrev pub policy_number : Result CpaPolicy Refusal → ℕ
-policy_number (Ok p) = 0
-policy_number (Err why) = number_of why
+policy_answer limit time =
+    let p : CpaPolicy = record { cpa_limit = limit; tcpa_limit = time } in
+    policy_if_accepted (verdict (policy_checks p) (Ok tt)) p

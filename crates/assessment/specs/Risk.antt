@@ -1,4 +1,5 @@
--- The bearing drift, the closest approach and the bow crossing that an assessment names, and the risk (assessment.rs, `assess`), operation by operation.
+-- The bearing drift, the closest approach and the bow crossing that an assessment names, and the
+-- risk (assessment.rs, `assess`), operation by operation.
 use Rattle.std.specs.Prelude.{cond, ℕ, Float, None, Some, Err, Ok}
 use Rattle.std.specs.Float.{binary64}
 use Rattle.std.specs.Float.Ieee.{lt, of_bits}

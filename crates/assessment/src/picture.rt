@@ -1,5 +1,7 @@
-// The collision picture: targets assessed against own craft at one instant (assessment.rs, `CollisionPicture`), a list within the capacity.
+// The collision picture: targets assessed against own craft at one instant (assessment.rs,
+// `CollisionPicture`), a list within the capacity.
 ghost use Rattle.std.specs.Prelude.{◌≡◌, ◌≤◌, [], ◌∷◌, eqb, length};
+ghost use Rattle.assessment.specs.MostDangerous.{MostDangerous};
 ghost use Rattle.assessment.specs.Picture as Spec;
 ghost use Rattle.motion.specs.Capacity.{max_contacts};
 
@@ -73,7 +75,8 @@ impl CollisionPicture {
 
     // The highest risk, then the least time to go, then the last listed; none in an empty picture.
     pub fn most_dangerous(&self) -> Option<TargetAssessment>
-        ensures { result ≡ Spec.most_dangerous (Spec.targets self.now) }
+        ensures is { result ≡ Spec.most_dangerous (Spec.targets self.now) }
+        ensures property { MostDangerous (Spec.targets self.now) result }
     {
         self.targets().iter().fold(None, |best, e| keep(best, *e))
     }

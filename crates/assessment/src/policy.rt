@@ -1,4 +1,5 @@
-// The limits within which an approach is dangerous, from assessment.rs; the definitions in specs/ follow it operation by operation.
+// The limits within which an approach is dangerous, from assessment.rs; the definitions in specs/
+// follow it operation by operation.
 ghost use Rattle.std.specs.Prelude.{◌≡◌};
 ghost use Rattle.motion.specs.Check as Check;
 ghost use Rattle.assessment.specs.Policy as Spec;

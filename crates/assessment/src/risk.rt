@@ -1,5 +1,6 @@
-// Of one contact: how fast the bearing draws, the closest approach and the bow crossing where there are any, and the risk against
-// the vessel's limits. From assessment.rs; the definitions in specs/ follow it operation by operation.
+// Of one contact: how fast the bearing draws, the closest approach and the bow crossing where there
+// are any, and the risk against the vessel's limits. From assessment.rs; the definitions in specs/
+// follow it operation by operation.
 ghost use Rattle.std.specs.Prelude.{◌≡◌};
 ghost use Rattle.assessment.specs.Risk as Spec;
 
@@ -8,7 +9,8 @@ use elementary::error::Refusal;
 use motion::units::{Distance, RateOfTurn};
 use relative_motion::approach::{Approach, Cpa, Relative};
 
-// In the order of concern: the range opens or stays; the closest approach is outside the limit; inside it but late; inside both.
+// In the order of concern: the range opens or stays; the closest approach is outside the limit;
+// inside it but late; inside both.
 #[derive(Clone, Copy, Default, PartialEq, Eq, PartialOrd, Ord)]
 pub enum CollisionRisk {
     #[default]
@@ -73,7 +75,8 @@ pub(crate) fn ahead_of(answer: Result<Distance, Refusal>) -> Option<Distance>
     answer.ok()
 }
 
-// The risk of a closest approach: outside the limit, inside it but later than the time limit, or inside both.
+// The risk of a closest approach: outside the limit, inside it but later than the time limit, or
+// inside both.
 #[tactic(auto, unfolding(math::specs::Clock::is_before), using(crate::proofs::RiskCode::develops, crate::proofs::RiskCode::endangers, crate::proofs::RiskCode::passes))]
 fn risk_at(policy: CpaPolicy, cpa: Cpa) -> CollisionRisk
     ensures { result ≡ Spec.risk_at policy cpa }

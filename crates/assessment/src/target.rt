@@ -1,4 +1,5 @@
-// Assessed targets, of which the collision picture is made: which of two is the more dangerous, and what a pass over them keeps.
+// Assessed targets, of which the collision picture is made: which of two is the more dangerous, and
+// what a pass over them keeps.
 ghost use Rattle.std.specs.Prelude.{◌≡◌};
 ghost use Rattle.assessment.specs.Target as Spec;
 
@@ -20,8 +21,8 @@ fn time_of(p: Option<Duration>) -> Duration
     p.unwrap_or(Duration::MAX)
 }
 
-// Whether one is more dangerous than another: a higher risk, or the same and less time. Of a pair that is less the time is the less one too, so
-// that each pair has the other's time.
+// Whether one is more dangerous than another: a higher risk, or the same and less time. Of a pair
+// that is less the time is the less one too, so that each pair has the other's time.
 #[tactic(auto, unfolding(crate::specs::Target::outranks, math::specs::Clock::is_before))]
 fn outranks(a: CollisionAssessment, b: CollisionAssessment) -> bool
     ensures { result ≡ Spec.outranks a b }

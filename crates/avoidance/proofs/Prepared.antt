@@ -90,9 +90,9 @@ module _ (own : Vessel) (floor : Float) (t : Target) (o : FitVessel own) (f : Fi
       go true m = refl
       go false m = ap (λ c. cleared floor (distance_alone (cond c (Opening t.contact.range) ahead))) (not-closing position relative parts m h)
 
-  pub same_passage : contact_clears own floor t ≡ contact_clears_computed (velocity own) floor (moving t)
+  pub same_clearance : contact_clears own floor t ≡ contact_clears_computed (velocity own) floor (moving t)
   unfolding contact_clears_computed moving relative_velocity
-  same_passage = plain ∙ go (le Check.zero (closing_rate position relative)) refl
+  same_clearance = plain ∙ go (le Check.zero (closing_rate position relative)) refl
     where
       go : (b : Bool) → le Check.zero (closing_rate position relative) ≡ b → cleared floor (distance_alone (approach_from t.contact.range position relative))
           ≡ cond b (Some t.contact.range) (cleared floor (distance_alone (approach_from t.contact.range position relative)))
@@ -128,11 +128,11 @@ module _ (own : Vessel) (o : FitVessel own) (ts : List Target) (f : FitTargets t
   pub real : (floor : Float) → Real (map (contact_clears own floor) ts)
   real floor d m = let u = Memᴰ.of_map (contact_clears own floor) ts m in no_nan d.0 (distances own floor u.0 o (f u.0 u.1) d u.2)
 
-  pub same_passages : (floor : Float) → map (contact_clears own floor) ts ≡ map (contact_clears_computed (velocity own) floor) (map moving ts)
-  same_passages floor = map_agree (contact_clears own floor) (λ t. contact_clears_computed (velocity own) floor (moving t)) ts (λ t m. same_passage own floor t o (f t m))
+  pub same_clearances : (floor : Float) → map (contact_clears own floor) ts ≡ map (contact_clears_computed (velocity own) floor) (map moving ts)
+  same_clearances floor = map_agree (contact_clears own floor) (λ t. contact_clears_computed (velocity own) floor (moving t)) ts (λ t m. same_clearance own floor t o (f t m))
       ∙ sym (map-map (contact_clears_computed (velocity own) floor) moving ts)
 
 pub same_clears : (own : Vessel) (a : Float) (ts : List Target) (desired : Distance) → FitVessel own → Small 9 0 a → FitTargets ts
     → clears own a ts desired ≡ clears_computed (velocity (altered own a)) (floor_of desired) (map moving ts)
 unfolding clears clears_computed
-same_clears own a ts desired o s f = ap clearing (same_passages (altered own a) (altered_fit own a o s) ts f (floor_of desired))
+same_clears own a ts desired o s f = ap clearing (same_clearances (altered own a) (altered_fit own a o s) ts f (floor_of desired))

@@ -1,7 +1,7 @@
--- The avoidance of one contact (avoidance.rs, `avoid` and `search`); the seeds and the choice among them are those of Seeds.antt.
-use Rattle.std.specs.Prelude.{List, [], ◌∷◌, ◌++◌, ℕ, None, Some, Err, Ok}
+-- The avoidance of one contact (avoidance.rs, `avoid` and `search`); the seeds and the choice among
+-- them are those of Seeds.antt.
+use Rattle.std.specs.Prelude.{List, [], ◌∷◌, ◌++◌, None, Some, Err, Ok}
 use Rattle.math.specs.Sign.{abs}
-use Rattle.elementary.specs.Refusal.{number_of}
 use Rattle.elementary.specs.declared.error.Refusal.TheVariants as Why
 use Rattle.motion.specs.declared.units.Distance.{Distance}
 use Rattle.motion.specs.declared.vessel.Vessel.{Vessel}
@@ -49,15 +49,12 @@ avoid_if_accepted (Ok tt) a = a
 avoid_if_accepted (Err why) a = Err why
 
 unfoldable pub avoid_answer : Vessel → Contact → Vessel → Distance → ManoeuvreConstraints → Result AvoidanceManoeuvre Refusal
-avoid_answer own contact target desired c = avoid_if_accepted (verdict (avoid_checks own contact target desired c) (Ok tt)) (avoided own contact target desired c)
+avoid_answer own contact target desired c =
+    avoid_if_accepted (verdict (avoid_checks own contact target desired c) (Ok tt))
+    (avoided own contact target desired c)
 
 -- ---- what is computed, from offset and velocity; the same on accepted arguments
 unfoldable pub avoided_computed : Vessel → Contact → Vessel → Distance → ManoeuvreConstraints → Result AvoidanceManoeuvre Refusal
 avoided_computed own contact target desired c =
     let clears = trial_clears_computed own (floor_of desired) (moving (target_of contact target) ∷ []) in
     answered own c (seeded_choice own clears (courses_or_none (course_answer own contact target desired)) c)
-
--- document 01's number of an answer, 0 where it is answered
-abbrev pub avoid_number : Result AvoidanceManoeuvre Refusal → ℕ
-avoid_number (Ok m) = 0
-avoid_number (Err why) = number_of why

@@ -10,7 +10,8 @@ use Rattle.clearance.specs.declared.Clearance.{Clearance}
 abbrev pub Real : List (Option Distance) → Type 0
 Real ps = (d : Distance) → Memᴰ (Some d) ps → T (not (is_nan d.0))
 
--- each contact passes, at no less than the passing distance; the limiting one is the first that passes at it
+-- each contact passes, at no less than the passing distance; the limiting one is the first that
+-- passes at it
 pub record Closest (ps : List (Option Distance)) (p : Clearance) : Type 0 where
   pub each : (q : Option Distance) → Memᴰ q ps → (d : Distance) × (q ≡ Some d) × T (le p.distance.0 d.0)
   pub before : List (Option Distance)

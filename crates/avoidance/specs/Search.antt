@@ -1,5 +1,6 @@
--- The choice among the trials of both sides (01, 'Trial list': 'for each permitted side, starboard first … the first grid trial that clears.
--- The smaller choice wins, starboard on equality. A trial is a side and a magnitude').
+-- The choice among the trials of both sides (01, 'Trial list': 'for each permitted side, starboard
+-- first … the first grid trial that clears. The smaller choice wins, starboard on equality. A trial
+-- is a side and a magnitude').
 use Rattle.std.specs.Prelude.{Bool, true, false, cond, List, Float, None, Some}
 use Rattle.std.specs.Float.Ieee.{neg, lt}
 use Rattle.laws.specs.Fold.{fold}
@@ -17,7 +18,8 @@ use Rattle.motion.specs.declared.side.Side.TheVariants.{Starboard, Port}
 use Rattle.manoeuvre.specs.Trials.{trials}
 use Rattle.motion.specs.declared.side.BySide.{BySide}
 
--- the alteration of a trial, positive to starboard (the Rust multiplies by 1 or -1, which rounds nothing)
+-- the alteration of a trial, positive to starboard (the Rust multiplies by 1 or -1, which rounds
+-- nothing)
 abbrev pub signed : Side → Float → Float
 signed Starboard magnitude = magnitude
 signed Port magnitude = neg magnitude
@@ -47,7 +49,9 @@ side_choice permitted clears side magnitudes = cond permitted (first clears side
 
 -- of the first that clears on each permitted side, the smaller
 unfoldable pub choice : BySide Bool → (Side → Float → Option Clearance) → List Float → Option Chosen
-choice sides clears magnitudes = smaller (side_choice sides.starboard (clears Starboard) Starboard magnitudes) (side_choice sides.port (clears Port) Port magnitudes)
+choice sides clears magnitudes =
+    smaller (side_choice sides.starboard (clears Starboard) Starboard magnitudes)
+    (side_choice sides.port (clears Port) Port magnitudes)
 
 -- for own craft among targets: a trial clears by `clears`, and the magnitudes are the trial list
 unfoldable pub trial_clears : Vessel → List Target → Distance → Side → Float → Option Clearance
@@ -69,7 +73,9 @@ is_found None = false
 is_found (Some c) = true
 
 unfoldable pub both : BySide Bool → (Side → Float → Option Clearance) → Float → Option Chosen
-both sides clears magnitude = first_found (tried sides.starboard Starboard magnitude (clears Starboard magnitude)) (tried sides.port Port magnitude (clears Port magnitude))
+both sides clears magnitude =
+    first_found (tried sides.starboard Starboard magnitude (clears Starboard magnitude))
+    (tried sides.port Port magnitude (clears Port magnitude))
 
 unfoldable pub or_both : BySide Bool → (Side → Float → Option Clearance) → Option Chosen → Float → Option Chosen
 or_both sides clears (Some c) magnitude = Some c

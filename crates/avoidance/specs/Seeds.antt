@@ -1,4 +1,7 @@
--- The seeds of `avoid` and the choice of a side and of both (avoidance.rs, `avoid` and `search`; 01, 'Trial list': 'in `avoid` a side's seed (from `course_for_cpa`, on that side, raised to least, not above most) is its choice if it clears, else the first grid trial that clears. The smaller choice wins, starboard on equality').
+-- The seeds of `avoid` and the choice of a side and of both (avoidance.rs, `avoid` and `search`;
+-- 01, 'Trial list': 'in `avoid` a side's seed (from `course_for_cpa`, on that side, raised to
+-- least, not above most) is its choice if it clears, else the first grid trial that clears. The
+-- smaller choice wins, starboard on equality').
 use Rattle.std.specs.Prelude.{Bool, true, false, cond, List, Float, None, Some, Err, Ok}
 use Rattle.std.specs.Float.Ieee.{lt, le}
 use Rattle.laws.specs.Ops.{◌⊖◌}
@@ -47,14 +50,18 @@ seed_choice clears side most (Some m) = cond (le m most) (chosen side m (clears 
 
 -- ---- the choice of a side, and of both
 unfoldable pub seeded_side : Bool → (Float → Option Clearance) → Side → Float → Option Float → List Float → Option Chosen
-seeded_side permitted clears side most seed magnitudes = cond permitted (first_found (seed_choice clears side most seed) (first clears side magnitudes)) None
+seeded_side permitted clears side most seed magnitudes =
+    cond permitted (first_found (seed_choice clears side most seed) (first clears side magnitudes)) None
 
 unfoldable pub seeded_choice : Vessel → (Side → Float → Option Clearance) → BySide (Option Direction) → ManoeuvreConstraints → Option Chosen
 seeded_choice own clears courses c =
     let least = c.least_alteration.0 in
     let most = c.most_alteration.0 in
-    smaller (seeded_side (permits_starboard c.sides) (clears Starboard) Starboard most (optional_seed own.course Starboard least courses.starboard) (trials least most))
-    (seeded_side (permits_port c.sides) (clears Port) Port most (optional_seed own.course Port least courses.port) (trials least most))
+    let to_starboard = optional_seed own.course Starboard least courses.starboard in
+    let to_port = optional_seed own.course Port least courses.port in
+    smaller
+    (seeded_side (permits_starboard c.sides) (clears Starboard) Starboard most to_starboard (trials least most))
+    (seeded_side (permits_port c.sides) (clears Port) Port most to_port (trials least most))
 
 abbrev pub only : Side → BySide Bool
 only Starboard = record { starboard = true; port = false }

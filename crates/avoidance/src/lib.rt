@@ -1,5 +1,6 @@
-// The avoidance of one contact: the smallest permitted alteration that opens it to the distance that is wanted (avoidance.rs, `avoid`). A
-// side's exact course is tried first, then its trial list (`seed`); specs/Avoid.antt has the definition.
+// The avoidance of one contact: the smallest permitted alteration that opens it to the distance
+// that is wanted (avoidance.rs, `avoid`). A side's exact course is tried first, then its trial list
+// (`seed`); specs/Avoid.antt has the definition.
 #![tactic(auto)]
 
 pub mod search;
@@ -18,7 +19,8 @@ use manoeuvre::constraints::ManoeuvreConstraints;
 use motion::units::{Angle, Distance};
 use motion::vessel::{Contact, Vessel};
 
-// Apart from `ruled`'s of this name: `avoid` answers `AvoidanceManoeuvre`, the Rust's type, and `ruled` the other, which says why there are two.
+// Apart from `ruled`'s of this name: `avoid` answers `AvoidanceManoeuvre`, the Rust's type, and
+// `ruled` the other, which says why there are two.
 fn manoeuvre_of(own: Vessel, c: ManoeuvreConstraints, x: Chosen) -> AvoidanceManoeuvre
     ensures { result ≡ Spec.manoeuvre_of own c x }
 {
@@ -70,8 +72,9 @@ fn check_arguments(
     manoeuvre::constraints::check_constraints(c)
 }
 
-// The smallest permitted alteration that opens the contact to `desired`, or leaves it opening. Arguments are checked in document 01's
-// order: own craft, the contact, the target, the desired distance, the constraints; it refuses with 5 where no trial clears.
+// The smallest permitted alteration that opens the contact to `desired`, or leaves it opening.
+// Arguments are checked in document 01's order: own craft, the contact, the target, the desired
+// distance, the constraints; it refuses with 5 where no trial clears.
 pub fn avoid(
     own: Vessel,
     contact: Contact,

@@ -1,7 +1,9 @@
-// The smallest alteration of the trial list that clears the traffic (avoidance.rs, `search`; document 01, 'Trial list').
+// The smallest alteration of the trial list that clears the traffic (avoidance.rs, `search`;
+// document 01, 'Trial list').
 //
-// The trials of both sides are tried together, by their magnitude and starboard first, so that the first one that clears is the answer;
-// proofs/Smallest.antt says that this is document 01's choice: the first that clears on each side, the smaller of the two, starboard on equality.
+// The trials of both sides are tried together, by their magnitude and starboard first, so that the
+// first one that clears is the answer; proofs/Smallest.antt says that this is document 01's choice:
+// the first that clears on each side, the smaller of the two, starboard on equality.
 ghost use Rattle.std.specs.Prelude.{◌≡◌};
 ghost use Rattle.clearance.specs.Clearing as Clearing;
 ghost use Rattle.avoidance.specs.Search as Spec;
@@ -64,7 +66,8 @@ pub struct Search<'a> {
 }
 
 impl<'a> Search<'a> {
-    // The search for a distance that is wanted: its floor is 1e-9 below, since an exact answer lands on the distance.
+    // The search for a distance that is wanted: its floor is 1e-9 below, since an exact answer
+    // lands on the distance.
     #[tactic(auto, unfolding(clearance::specs::Clearing::floor_of))]
     pub fn new(own: Vessel, scene: &'a [Moving], desired: Distance) -> Search<'a>
         ensures own { result.own ≡ own }

@@ -1,5 +1,5 @@
-// The choice among the seeds of both sides and the trial lists: a side's exact course is tried first, then its trial list
-// (avoidance.rs, `avoid`); specs/Seeds.antt has the definition.
+// The choice among the seeds of both sides and the trial lists: a side's exact course is tried
+// first, then its trial list (avoidance.rs, `avoid`); specs/Seeds.antt has the definition.
 ghost use Rattle.std.specs.Prelude.{◌≡◌};
 ghost use Rattle.avoidance.specs.Search as Choosing;
 ghost use Rattle.manoeuvre.specs.Constraints.{permits};
@@ -61,14 +61,20 @@ fn on_side(
     courses: Avoidance,
     c: ManoeuvreConstraints,
 ) -> Option<Chosen>
-    ensures { result ≡ Spec.seeded_side (on (permits c.sides) side) (Choosing.trial_clears_computed search.now.own search.now.floor search.now.scene.now side) side c.most_alteration.0 (Spec.optional_seed search.now.own.course side c.least_alteration.0 (on courses side)) (trials c.least_alteration.0 c.most_alteration.0) }
+    ensures { result ≡ Spec.seeded_side
+        (on (permits c.sides) side)
+        (Choosing.trial_clears_computed search.now.own search.now.floor search.now.scene.now side)
+        side c.most_alteration.0
+        (Spec.optional_seed search.now.own.course side c.least_alteration.0 (on courses side))
+        (trials c.least_alteration.0 c.most_alteration.0) }
 {
     if !BySide::from(c.sides()).on(side) {
         return None;
     }
     let list = c.trials();
     let seed = optional_seed(search.own.course, side, list.least, courses.on(side));
-    // A match: of a closure that borrows a type with a lifetime, here `&Search<'_>`, `first_found` says nothing of what it returns (tried).
+    // A match: of a closure that borrows a type with a lifetime, here `&Search<'_>`, `first_found`
+    // says nothing of what it returns (tried).
     match try_seed(search, side, list.most, seed) {
         Some(c) => Some(c),
         None => search.smallest(only(side), list),
@@ -79,7 +85,8 @@ fn on_side(
 fn smaller_of(starboard: Option<Chosen>, port: Option<Chosen>) -> Option<Chosen>
     ensures { result ≡ Choosing.smaller starboard port }
 {
-    // A match: `starboard.filter(|s| !port.is_some_and(|p| p.magnitude.0 < s.magnitude.0)).or(port)` is shorter, and hides the case of a tie.
+    // A match: `starboard.filter(|s| !port.is_some_and(|p| p.magnitude.0 <
+    // s.magnitude.0)).or(port)` is shorter, and hides the case of a tie.
     match (starboard, port) {
         (Some(s), Some(p)) if p.magnitude.0 < s.magnitude.0 => port,
         (None, _) => port,

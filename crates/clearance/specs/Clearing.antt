@@ -1,4 +1,7 @@
--- Whether the traffic is clear on a course (avoidance.rs, `clears`; 01, 'Trial list': 'a trial clears if no contact, by `closest_point_of_approach` on the altered course, closes under desired minus 1e-9. A contact's passing distance is its CPA on that course if closing there, else its present range. The limiting contact is the first with the least passing distance').
+-- Whether the traffic is clear on a course (avoidance.rs, `clears`; 01, 'Trial list': 'a trial
+-- clears if no contact, by `closest_point_of_approach` on the altered course, closes under desired
+-- minus 1e-9. A contact's passing distance is its CPA on that course if closing there, else its
+-- present range. The limiting contact is the first with the least passing distance').
 use Rattle.std.specs.Prelude.{cond, List, [], ◌∷◌, map, ℕ, suc, Float, None, Some}
 use Rattle.std.specs.Option.{unwrap_or}
 use Rattle.std.specs.Float.{binary64}

@@ -1,4 +1,5 @@
--- What one contact does to a course (avoidance.rs, `clears`; 01, 'Trial list': 'a contact's passing distance is its CPA on that course if closing there, else its present range').
+-- What one contact does to a course (avoidance.rs, `clears`; 01, 'Trial list': 'a contact's passing
+-- distance is its CPA on that course if closing there, else its present range').
 use Rattle.std.specs.Prelude.{cond, Float, None, Some, Err, Ok}
 use Rattle.std.specs.Float.Ieee.{lt, le}
 use Rattle.motion.specs.Check.{zero}

@@ -1,4 +1,5 @@
--- The traffic as a list, and its checks (01, 'The answers by number': 'the order count of contacts, own, contact …; a list goes entry by entry, contact then target').
+-- The traffic as a list, and its checks (01, 'The answers by number': 'the order count of contacts,
+-- own, contact …; a list goes entry by entry, contact then target').
 use mathlib.Core.List.{Memᴰ}
 use Rattle.std.specs.Prelude.{List, [], ◌∷◌, ◌++◌, map, ℕ, leb}
 use Rattle.elementary.specs.declared.error.Refusal.TheVariants as Why

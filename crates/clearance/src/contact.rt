@@ -1,6 +1,8 @@
-// What one contact does to a course (avoidance.rs, `clears`): it closes under the distance that is wanted, or passes at a distance.
+// What one contact does to a course (avoidance.rs, `clears`): it closes under the distance that is
+// wanted, or passes at a distance.
 //
-// specs/Passages.antt has the plain definition, by `closest_point_of_approach`, and beside it what is computed here.
+// specs/Contact.antt has the plain definition, by `closest_point_of_approach`, and beside it what
+// is computed here.
 ghost use Rattle.std.specs.Prelude.{◌≡◌};
 ghost use Rattle.motion.specs.Vessel as Motion;
 ghost use Rattle.clearance.specs.Contact as Spec;
@@ -16,8 +18,9 @@ pub struct Target {
     pub vessel: Vessel,
 }
 
-// The same by its range, and by the north and east parts of its offset and its velocity. Apart from `Relative`, which has these fields: this
-// velocity is the target's own, the same for every course that is tried, and that one is relative to own craft.
+// The same by its range, and by the north and east parts of its offset and its velocity. Apart from
+// `Relative`, which has these fields: this velocity is the target's own, the same for every course
+// that is tried, and that one is relative to own craft.
 #[derive(Clone, Copy, Default)]
 pub struct Moving {
     pub range: Distance,

@@ -1,10 +1,13 @@
-// Whether the traffic is clear on a course (avoidance.rs, `clears`): the distance of the contact that passes closest, and its place in
-// the list, unless a contact closes under the distance that is wanted.
+// Whether the traffic is clear on a course (avoidance.rs, `clears`): the distance of the contact
+// that passes closest, and its place in the list, unless a contact closes under the distance that
+// is wanted.
 //
-// A contact's offset and velocity are worked out once (`Moving`), own craft's velocity once for each course. specs/Clearing.antt has
-// the plain definition, by `closest_point_of_approach`, and beside it what is computed here.
-// Most courses of a search are blocked, and one contact that blocks is enough. So the suspects come first, of which a product tells, without a root
-// or a division, that they may close under the distance. A contact blocks only if it is worked out to; where no suspect does, all are worked out.
+// A contact's offset and velocity are worked out once (`Moving`), own craft's velocity once for
+// each course. specs/Clearing.antt has the plain definition, by `closest_point_of_approach`, and
+// beside it what is computed here. Most courses of a search are blocked, and one contact that
+// blocks is enough. So the suspects come first, of which a product tells, without a root or a
+// division, that they may close under the distance. A contact blocks only if it is worked out to;
+// where no suspect does, all are worked out.
 #![tactic(auto)]
 
 pub mod contact;
@@ -47,8 +50,9 @@ fn nearer(closest: Option<Clearance>, place: usize, distance: Distance) -> Clear
         .unwrap_or(next)
 }
 
-// Whether a contact seems to close to a point nearer than the root of `square`: that point's distance is the offset's cross product with
-// the relative velocity, over the relative speed. Nothing is promised of it.
+// Whether a contact seems to close to a point nearer than the root of `square`: that point's
+// distance is the offset's cross product with the relative velocity, over the relative speed.
+// Nothing is promised of it.
 fn is_suspect(own: Components, m: Moving, square: f64) -> bool {
     let seen = m.seen_from(own);
     let cross = seen.offset.cross(seen.velocity);
@@ -68,7 +72,8 @@ fn suspect_blocks(own: Components, scene: &[Moving], floor: f64) -> bool
 fn tallied(own: Components, scene: &[Moving], floor: f64) -> Option<Clearance>
     ensures { result ≡ Spec.clears_computed own floor scene.now }
 {
-    // A loop: `try_fold` would carry an `Option` of an `Option`, one for a contact that blocks and one for nobody yet.
+    // A loop: `try_fold` would carry an `Option` of an `Option`, one for a contact that blocks and
+    // one for nobody yet.
     let mut closest = None;
     for (place, m) in scene.iter().enumerate() {
         let distance = contact_clears(own, *m, floor)?;

@@ -1,4 +1,5 @@
-// The traffic around own craft: a list of contacts with the vessels that they are, of which a search takes MAX_CONTACTS at most.
+// The traffic around own craft: a list of contacts with the vessels that they are, of which a
+// search takes MAX_CONTACTS at most.
 ghost use Rattle.std.specs.Prelude.{◌≡◌, OnOk, map, take};
 ghost use Rattle.motion.specs.Capacity.{max_contacts};
 ghost use Rattle.motion.specs.Check as Check;
@@ -33,7 +34,8 @@ impl From<Entry> for Target {
     }
 }
 
-// The offsets and velocities of the contacts, worked out: of the first MAX_CONTACTS, where there are more.
+// The offsets and velocities of the contacts, worked out: of the first MAX_CONTACTS, where there
+// are more.
 pub fn scene_of(t: &[Entry]) -> ArrayVec<Moving, MAX_CONTACTS>
     ensures { result.items ≡ map Clearing.moving (Spec.targets (take max_contacts t.now)) }
 {

@@ -35,46 +35,49 @@ use Rattle.colregs.proofs.Rows.{a, power, heads, vessel, seen, unseen, wind, rul
 unfoldable pub departures : List Row
 departures =
     -- 12, 14, 15: no risk of collision
-    rules (seen (power 0 10) 45 5 (power 45 20)) (Crossing Starboard) GiveWay Rule15 true false
+    rules (seen (power 0 10) 45 5 (power 45 20)) (Crossing Starboard) GiveWay Rule15 true false true false
     -- 12(a)(ii): at 90 degrees from the wind both stand on; the wind unknown
-    ∷ rules (wind 0 (seen (a (Sailing Tack.Starboard) 0 5) 90 2 (a (Sailing Tack.Starboard) 0 5))) (Crossing Starboard) StandOn Rule12 true false
-    ∷ rules (wind 0 (seen (a (Sailing Tack.Starboard) 0 5) 270 2 (a (Sailing Tack.Starboard) 0 5))) (Crossing Port) StandOn Rule12 true false
-    ∷ rules (seen (a (Sailing Tack.Starboard) 0 5) 90 2 (a (Sailing Tack.Starboard) 0 5)) (Crossing Starboard) Undetermined Rule12 true true
+    ∷ rules (wind 0 (seen (a (Sailing Tack.Starboard) 0 5) 90 2 (a (Sailing Tack.Starboard) 0 5))) (Crossing Starboard) StandOn Rule12 true false true true
+    ∷ rules (wind 0 (seen (a (Sailing Tack.Starboard) 0 5) 270 2 (a (Sailing Tack.Starboard) 0 5))) (Crossing Port) StandOn Rule12 true false true true
+    ∷ rules (seen (a (Sailing Tack.Starboard) 0 5) 90 2 (a (Sailing Tack.Starboard) 0 5)) (Crossing Starboard) Undetermined Rule12 true true true false
     -- 12(a)(iii): one to windward whose tack is unknown
-    ∷ rules (wind 270 (seen (a (Sailing Tack.Port) 0 5) 270 2 (a (Sailing Tack.Unknown) 0 5))) (Crossing Port) Undetermined Rule12 true true
+    ∷ rules (wind 270 (seen (a (Sailing Tack.Port) 0 5) 270 2 (a (Sailing Tack.Unknown) 0 5))) (Crossing Port) Undetermined Rule12 true true true false
     -- 13(b): astern at the same speed; each astern of the other, from either side
-    ∷ rules (seen (power 0 10) 0 2 (power 0 10)) (Crossing Port) StandOn Rule17 true false
-    ∷ rules (seen (heads 180 (power 0 5)) 0 2 (heads 0 (power 180 5))) BeingOvertaken StandOn Rule13 true true
-    ∷ rules (seen (heads 0 (power 180 5)) 180 2 (heads 180 (power 0 5))) BeingOvertaken StandOn Rule13 true true
+    ∷ rules (seen (power 0 10) 0 2 (power 0 10)) (Crossing Port) StandOn Rule17 true false true true
+    ∷ rules (seen (heads 180 (power 0 5)) 0 2 (heads 0 (power 180 5))) BeingOvertaken StandOn Rule13 true true true true
+    ∷ rules (seen (heads 0 (power 180 5)) 180 2 (heads 180 (power 0 5))) BeingOvertaken StandOn Rule13 true true true true
     -- 13(c): exactly 22.5 degrees abaft the beam
-    ∷ rules (seen (power 0 20) 0 5 (party (vessel (record { 0 = of_bits binary64 0x4050_e000_0000_0000 }) 10) PowerDriven)) (Crossing Port) StandOn Rule17 true false
+    ∷ rules (seen (power 0 20) 0 5 (party (vessel (record { 0 = of_bits binary64 0x4050_e000_0000_0000 }) 10) PowerDriven)) (Crossing Port) StandOn Rule17 true false true true
     -- 13(d): overtaking, and later crossing
-    ∷ rules (seen (power 0 20) 310 1 (power 0 10)) Overtaking GiveWay Rule13 true true
-    ∷ rules (seen (power 0 20) 280 1 (power 0 10)) (Crossing Port) StandOn Rule17 true false
+    ∷ rules (seen (power 0 20) 310 1 (power 0 10)) Overtaking GiveWay Rule13 true true true false
+    ∷ rules (seen (power 0 20) 280 1 (power 0 10)) (Crossing Port) StandOn Rule17 true false true true
     -- 14(a): two fishing vessels; an opening range
-    ∷ rules (seen (a Fishing 0 10) 0 5 (a Fishing 180 10)) HeadOn Both Rule14 true false
-    ∷ rules (seen (heads 0 (power 180 5)) 0 2 (heads 180 (power 0 5))) HeadOn Both Rule14 true false
+    ∷ rules (seen (a Fishing 0 10) 0 5 (a Fishing 180 10)) HeadOn Both Rule14 true false true false
+    ∷ rules (seen (heads 0 (power 180 5)) 0 2 (heads 180 (power 0 5))) HeadOn Both Rule14 true false true false
     -- 14(b), (c): within 6 degrees, and over it
-    ∷ rules (seen (power 0 10) 6 5 (power 180 10)) HeadOn Both Rule14 true false
-    ∷ rules (seen (power 0 10) 6 5 (power 179 10)) (Crossing Starboard) GiveWay Rule15 true false
-    ∷ rules (seen (power 0 10) 354 5 (power 167 10)) (Crossing Port) StandOn Rule17 true false
+    ∷ rules (seen (power 0 10) 6 5 (power 180 10)) HeadOn Both Rule14 true false true false
+    ∷ rules (seen (power 0 10) 6 5 (power 179 10)) (Crossing Starboard) GiveWay Rule15 true false true false
+    ∷ rules (seen (power 0 10) 354 5 (power 167 10)) (Crossing Port) StandOn Rule17 true false true true
     -- 15: two fishing vessels; dead ahead; not to port
-    ∷ rules (seen (a Fishing 0 10) 45 5 (a Fishing 270 10)) (Crossing Starboard) GiveWay Rule15 true false
-    ∷ rules (seen (power 0 10) 0 5 (power 90 10)) (Crossing Port) StandOn Rule17 true false
-    ∷ rules (seen (power 0 10) 0 5 (power 270 10)) (Crossing Starboard) GiveWay Rule15 true false
-    ∷ rules (seen (power 0 10) 45 5 (power 270 10)) (Crossing Starboard) GiveWay Rule15 true false
+    ∷ rules (seen (a Fishing 0 10) 45 5 (a Fishing 270 10)) (Crossing Starboard) GiveWay Rule15 true false true false
+    ∷ rules (seen (power 0 10) 0 5 (power 90 10)) (Crossing Port) StandOn Rule17 true false true true
+    ∷ rules (seen (power 0 10) 0 5 (power 270 10)) (Crossing Starboard) GiveWay Rule15 true false true false
+    ∷ rules (seen (power 0 10) 45 5 (power 270 10)) (Crossing Starboard) GiveWay Rule15 true false true false
     -- 17(a), (b): starboard at once; (c): any category, either side
-    ∷ rules (seen (power 0 10) 315 5 (power 90 10)) (Crossing Port) StandOn Rule17 true false
-    ∷ rules (seen (a Fishing 0 5) 45 5 (power 270 10)) (Crossing Starboard) StandOn Rule18 true false
+    ∷ rules (seen (power 0 10) 315 5 (power 90 10)) (Crossing Port) StandOn Rule17 true false true true
+    ∷ rules (seen (a Fishing 0 5) 45 5 (power 270 10)) (Crossing Starboard) StandOn Rule18 true false true true
+    -- 18(d)(i): draught over power, from either side
+    ∷ rules (seen (a ConstrainedByDraught 0 10) 45 5 (power 270 10)) (Crossing Starboard) StandOn Rule18 true false true true
+    ∷ rules (seen (power 0 10) 315 5 (a ConstrainedByDraught 90 10)) (Crossing Port) GiveWay Rule18 true true true false
     -- 18: draught over fishing; not under command over restricted; fishing
-    ∷ rules (seen (a ConstrainedByDraught 0 10) 45 5 (a Fishing 270 10)) (Crossing Starboard) StandOn Rule18 true false
-    ∷ rules (seen (a RestrictedInAbilityToManoeuvre 0 10) 45 5 (a NotUnderCommand 270 10)) (Crossing Starboard) GiveWay Rule18 true true
-    ∷ rules (seen (a Fishing 0 10) 45 5 (a NotUnderCommand 270 10)) (Crossing Starboard) GiveWay Rule18 true true
+    ∷ rules (seen (a ConstrainedByDraught 0 10) 45 5 (a Fishing 270 10)) (Crossing Starboard) StandOn Rule18 true false true true
+    ∷ rules (seen (a RestrictedInAbilityToManoeuvre 0 10) 45 5 (a NotUnderCommand 270 10)) (Crossing Starboard) GiveWay Rule18 true true true false
+    ∷ rules (seen (a Fishing 0 10) 45 5 (a NotUnderCommand 270 10)) (Crossing Starboard) GiveWay Rule18 true true true false
     -- 19(d): at an opening range; dead astern
-    ∷ rules (unseen (power 0 10) 45 5 (power 45 20)) (Crossing Starboard) Both Rule19 true false
-    ∷ rules (unseen (power 0 10) 180 5 (power 0 12)) BeingOvertaken Both Rule19 false true
+    ∷ rules (unseen (power 0 10) 45 5 (power 45 20)) (Crossing Starboard) Both Rule19 true false true false
+    ∷ rules (unseen (power 0 10) 180 5 (power 0 12)) BeingOvertaken Both Rule19 false true true false
     -- the heading against the motion
-    ∷ rules (seen (heads 90 (power 0 10)) 0 5 (power 180 10)) (Crossing Port) StandOn Rule17 true false
+    ∷ rules (seen (heads 90 (power 0 10)) 0 5 (power 180 10)) (Crossing Port) StandOn Rule17 true false true true
     ∷ []
 
 pub departures_hold : every departures ≡ true

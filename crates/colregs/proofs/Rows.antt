@@ -61,7 +61,7 @@ unseen own bearing range target = situation own target (contact (direction beari
 abbrev pub wind : ℕ → Situation → Situation
 wind from s = with_wind_from s (direction from)
 
--- ---- rulings as figures: encounter, duty, rule, sides
+-- ---- rulings as figures: encounter, duty, rule, and what is permitted: starboard, port, slowing down, holding on
 abbrev encounter_code : Encounter → ℕ
 encounter_code Overtaking = 0
 encounter_code BeingOvertaken = 1
@@ -79,15 +79,19 @@ abbrev bit : Bool → ℕ
 bit true = 1
 bit false = 0
 
-abbrev code : Encounter → Responsibility → Rule → Bool → Bool → ℕ
-code e duty rule starboard port = 100000 + (((encounter_code e * 10 + duty_code duty) * 100 + rule_number rule) * 10 + bit starboard) * 10 + bit port
+abbrev code : Encounter → Responsibility → Rule → Bool → Bool → Bool → Bool → ℕ
+code e duty rule starboard port slow_down hold =
+    10000000 + (((((encounter_code e * 10 + duty_code duty) * 100 + rule_number rule) * 10 + bit starboard) * 10 + bit port) * 10 + bit slow_down) * 10 + bit hold
 
 abbrev code_of : Result Ruling Refusal → ℕ
-code_of (Ok r) = code r.encounter r.responsibility r.rule r.manoeuvre.starboard r.manoeuvre.port
+code_of (Ok r) = code r.encounter r.responsibility r.rule r.manoeuvre.starboard r.manoeuvre.port r.manoeuvre.slow_down r.manoeuvre.hold
 code_of (Err why) = number_of why
 
-abbrev pub rules : Situation → Encounter → Responsibility → Rule → Bool → Bool → Row
-rules s e duty rule starboard port = row (code_of (ruling_answer s standard)) (code e duty rule starboard port)
+abbrev pub rules_by : ColregsConfig → Situation → Encounter → Responsibility → Rule → Bool → Bool → Bool → Bool → Row
+rules_by config s e duty rule starboard port slow_down hold = row (code_of (ruling_answer s config)) (code e duty rule starboard port slow_down hold)
+
+abbrev pub rules : Situation → Encounter → Responsibility → Rule → Bool → Bool → Bool → Bool → Row
+rules s e duty rule starboard port slow_down hold = rules_by standard s e duty rule starboard port slow_down hold
 
 abbrev pub refuses : Situation → ColregsConfig → ℕ → Row
 refuses s config wanted = row (code_of (ruling_answer s config)) wanted

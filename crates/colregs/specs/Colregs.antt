@@ -1,4 +1,6 @@
--- COLREGs 1972, Rules 12 to 19, over the facts of a situation: one definition for each rule, then the order in which they apply. Where kinavis-colregs departs from a rule, the definition does what it does and says so ('departs'); docs/DIFFERENCES.md has an input for each.
+-- COLREGs 1972, Rules 12 to 19, over the facts of a situation: one definition for each rule, then
+-- the order in which they apply. Where kinavis-colregs departs from a rule, the definition does
+-- what it does and says so ('departs'); docs/DIFFERENCES.md has an input for each.
 use Rattle.std.specs.Prelude.{Bool, true, false, ◌&&◌, ◌||◌, not, cond, List, [], ◌∷◌, ◌++◌, Float, Err, Ok}
 use Rattle.std.specs.Float.{binary64}
 use Rattle.std.specs.Float.Ieee.{lt, le, of_bits}
@@ -40,7 +42,9 @@ abbrev pub dead_ahead : Float
 dead_ahead = of_bits binary64 0x3e11_2e0b_e826_d695
 
 -- ---- Rule 13, overtaking
--- (b) 'coming up with another vessel from a direction more than 22.5 degrees abaft her beam': the direction in which the one that comes up lies, off the other's bow. Coming up is taken as closing (departs: a vessel that keeps her distance astern is crossing).
+-- (b) 'coming up with another vessel from a direction more than 22.5 degrees abaft her beam': the
+-- direction in which the one that comes up lies, off the other's bow. Coming up is taken as closing
+-- (departs: a vessel that keeps her distance astern is crossing).
 unfoldable pub abaft : ColregsConfig → Float → Bool
 abaft config angle = lt (quarter_turn ⊕ config.overtaking_abaft_beam.0) (abs angle)
 
@@ -50,7 +54,8 @@ own_comes_up config f = f.closing && abaft config f.aspect
 unfoldable pub target_comes_up : ColregsConfig → Geometry → Bool
 target_comes_up config f = f.closing && abaft config f.relative
 
--- where each comes up from astern of the other, the faster one overtakes; at equal speeds the asker is overtaken
+-- where each comes up from astern of the other, the faster one overtakes; at equal speeds the asker
+-- is overtaken
 unfoldable pub own_overtakes : ColregsConfig → Geometry → Bool
 own_overtakes config f = own_comes_up config f && (not (target_comes_up config f) || lt f.target_speed.0 f.own_speed.0)
 
@@ -69,7 +74,8 @@ rule13 (Crossing side) = silent
 unfoldable pub is_head_on : ColregsConfig → Geometry → Bool
 is_head_on config f = le (abs f.relative) config.head_on_half_width.0 && le (abs f.aspect) config.head_on_half_width.0
 
--- (a) each alters to starboard. Of two vessels that Rules 12 and 18 leave (departs: the rule speaks of power-driven ones alone)
+-- (a) each alters to starboard. Of two vessels that Rules 12 and 18 leave (departs: the rule speaks
+-- of power-driven ones alone)
 abbrev pub rule14 : Encounter → Says
 rule14 HeadOn = says Both
 rule14 Overtaking = silent
@@ -77,7 +83,8 @@ rule14 BeingOvertaken = silent
 rule14 (Crossing side) = silent
 
 -- ---- Rule 15, crossing
--- the side on which own craft has the other; dead ahead she is on neither, and the side on which she has own craft decides
+-- the side on which own craft has the other; dead ahead she is on neither, and the side on which
+-- she has own craft decides
 unfoldable pub side_of : Geometry → Side
 side_of f = cond (cond (lt (abs f.relative) dead_ahead) (lt f.aspect zero) (lt zero f.relative)) Side.Starboard Side.Port
 
@@ -89,10 +96,12 @@ rule15 Overtaking = silent
 rule15 BeingOvertaken = silent
 rule15 HeadOn = silent
 
--- ---- Rule 16, the give-way vessel: early and substantial action, which fixes no figure; whether an alteration clears is for the search to say
+-- ---- Rule 16, the give-way vessel: early and substantial action, which fixes no figure; whether
+-- an alteration clears is for the search to say
 
 -- ---- Rule 17, the stand-on vessel
--- (a)(i) where one of two vessels keeps out of the way, here by Rule 15, the other keeps her course and speed
+-- (a)(i) where one of two vessels keeps out of the way, here by Rule 15, the other keeps her course
+-- and speed
 abbrev pub rule17 : Encounter → Says
 rule17 (Crossing Side.Port) = says StandOn
 rule17 (Crossing Side.Starboard) = silent
@@ -101,7 +110,9 @@ rule17 BeingOvertaken = silent
 rule17 HeadOn = silent
 
 -- ---- Rule 18, responsibilities: whether the first keeps out of the way of the second
--- (a) a power-driven vessel of one not under command, restricted in her ability to manoeuvre, fishing, sailing; (d)(i) of one constrained by her draught (departs: not impeding is less than keeping out of the way)
+-- (a) a power-driven vessel of one not under command, restricted in her ability to manoeuvre,
+-- fishing, sailing; (d)(i) of one constrained by her draught (departs: not impeding is less than
+-- keeping out of the way)
 abbrev pub power_keeps_clear : VesselCategory → Bool
 power_keeps_clear PowerDriven = false
 power_keeps_clear (Sailing tack) = true
@@ -128,7 +139,8 @@ fishing_keeps_clear ConstrainedByDraught = true
 fishing_keeps_clear RestrictedInAbilityToManoeuvre = true
 fishing_keeps_clear NotUnderCommand = true
 
--- (a) a vessel constrained by her draught is power-driven (Rule 3(h)); of one fishing or sailing she does not keep clear (departs)
+-- (a) a vessel constrained by her draught is power-driven (Rule 3(h)); of one fishing or sailing
+-- she does not keep clear (departs)
 abbrev pub draught_keeps_clear : VesselCategory → Bool
 draught_keeps_clear PowerDriven = false
 draught_keeps_clear (Sailing tack) = false
@@ -165,7 +177,9 @@ windward_gives_way Windward.Own = GiveWay
 windward_gives_way Windward.Target = StandOn
 windward_gives_way Windward.Unknown = Undetermined
 
--- (a)(i) the wind on different sides: the one with the wind on her port side keeps out of the way; (a)(iii) the other's tack unknown (departs: undetermined, whatever own tack is and whoever is to windward)
+-- (a)(i) the wind on different sides: the one with the wind on her port side keeps out of the way;
+-- (a)(iii) the other's tack unknown (departs: undetermined, whatever own tack is and whoever is to
+-- windward)
 abbrev pub sailing_vessels : Tack → Tack → Windward → Responsibility
 sailing_vessels Tack.Port Tack.Starboard w = GiveWay
 sailing_vessels Tack.Starboard Tack.Port w = StandOn
@@ -198,9 +212,13 @@ rule19 InSight = silent
 
 -- ---- the kind of encounter
 unfoldable pub encounter_of : ColregsConfig → Geometry → Encounter
-encounter_of config f = cond (own_overtakes config f) Overtaking (cond (target_overtakes config f) BeingOvertaken (cond (is_head_on config f) HeadOn (Crossing (side_of f))))
+encounter_of config f =
+    cond (own_overtakes config f) Overtaking
+    (cond (target_overtakes config f) BeingOvertaken (cond (is_head_on config f) HeadOn (Crossing (side_of f))))
 
--- ---- the order: Rule 19 where vessels are not in sight of one another; else Rule 13 'notwithstanding' the others, then 18, and between vessels of one rank 12, 14, 15 and 17. The first that speaks decides.
+-- ---- the order: Rule 19 where vessels are not in sight of one another; else Rule 13
+-- 'notwithstanding' the others, then 18, and between vessels of one rank 12, 14, 15 and 17. The
+-- first that speaks decides.
 pub record Clause : Type 0 where
   pub number : Rule
   pub text : Says
@@ -257,14 +275,16 @@ forward_of_beam relative = lt (abs relative) quarter_turn
 abbrev pub to_starboard : Float → Bool
 to_starboard relative = le zero relative
 
--- Rule 19(d) (departs: 'so far as possible'): (i) not to port for a vessel forward of the beam, other than one being overtaken; (ii) not towards a vessel abeam or abaft the beam
+-- Rule 19(d) (departs: 'so far as possible'): (i) not to port for a vessel forward of the beam,
+-- other than one being overtaken; (ii) not towards a vessel abeam or abaft the beam
 unfoldable pub rule19_starboard : Float → Bool
 rule19_starboard relative = forward_of_beam relative || not (to_starboard relative)
 
 unfoldable pub rule19_port : Encounter → Float → Bool
 rule19_port e relative = cond (forward_of_beam relative) (is_overtaking e) (to_starboard relative)
 
--- Rule 17(c): a vessel that stands on in a crossing does not alter to port (departs: the rule speaks of power-driven vessels, and of one on the port side)
+-- Rule 17(c): a vessel that stands on in a crossing does not alter to port (departs: the rule
+-- speaks of power-driven vessels, and of one on the port side)
 unfoldable pub rule17_port : Encounter → Responsibility → Bool
 rule17_port e duty = not (is_stand_on duty && is_crossing e)
 
@@ -289,7 +309,13 @@ permits_port Rule18 e duty relative = rule17_port e duty
 
 -- every vessel may slow down; Rule 17(a)(i): the one that stands on may hold
 unfoldable pub permitted : Encounter → Decision → Float → PermittedManoeuvre
-permitted e d relative = record { starboard = permits_starboard d.rule relative; port = permits_port d.rule e d.responsibility relative; slow_down = true; hold = is_stand_on d.responsibility }
+permitted e d relative =
+    record {
+      starboard = permits_starboard d.rule relative;
+      port = permits_port d.rule e d.responsibility relative;
+      slow_down = true;
+      hold = is_stand_on d.responsibility;
+    }
 
 -- ---- the ruling
 unfoldable pub ruling_for : Encounter → Decision → Float → Ruling

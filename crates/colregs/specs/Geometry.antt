@@ -1,4 +1,6 @@
--- The facts of a situation that the rules speak of, operation by operation (rules.rs, `geometry_of`, `is_closing`, and the wind in `sailing_vessels`). Angles are taken from the headings, closing from the motion.
+-- The facts of a situation that the rules speak of, operation by operation (rules.rs,
+-- `geometry_of`, `is_closing`, and the wind in `sailing_vessels`). Angles are taken from the
+-- headings, closing from the motion.
 use Rattle.std.specs.Prelude.{Bool, ◌&&◌, not, cond, Float, None, Some}
 use Rattle.std.specs.Float.Ieee.{lt}
 use Rattle.laws.specs.Ops.{◌⊕◌, ◌⊖◌, ◌⊗◌}

@@ -1,4 +1,5 @@
--- What a reader of rulings may rely on: one kind of encounter, a rule that decides, the sides that are permitted.
+-- What a reader of rulings may rely on: one kind of encounter, a rule that decides, the sides that
+-- are permitted.
 use Rattle.std.specs.Prelude.{◌≡◌, Bool, true, false, ◌&&◌, ◌||◌, not, cond, T, List, [], ◌∷◌, Float}
 use Rattle.situation.specs.declared.config.ColregsConfig.{ColregsConfig}
 use Rattle.colregs.specs.declared.geometry.Geometry.{Geometry}
@@ -88,6 +89,9 @@ in_sight =
     ∷ row Rule17 StandOn (Crossing Port) true false
     ∷ []
 
--- restricted visibility, by where the target lies: forward of the beam, or to starboard or to port of it or abaft
+-- restricted visibility, by where the target lies: forward of the beam, or to starboard or to port
+-- of it or abaft
 abbrev pub restricted : Encounter → Float → Row
-restricted e relative = cond (forward_of_beam relative) (row Rule19 Both e true (is_overtaking e)) (cond (to_starboard relative) (row Rule19 Both e false true) (row Rule19 Both e true false))
+restricted e relative =
+    cond (forward_of_beam relative) (row Rule19 Both e true (is_overtaking e))
+    (cond (to_starboard relative) (row Rule19 Both e false true) (row Rule19 Both e true false))

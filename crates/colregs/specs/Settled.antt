@@ -1,4 +1,5 @@
--- When a ruling says who keeps out of the way. Two sailing vessels whose tacks are known are left undetermined only where the wind is unknown, which is why a sheet tells it (request R-1).
+-- When a ruling says who keeps out of the way. Two sailing vessels whose tacks are known are left
+-- undetermined only where the wind is unknown, which is why a sheet tells it (request R-1).
 use Rattle.std.specs.Prelude.{Bool, true, false, T, None, Some}
 use Rattle.situation.specs.declared.party.Tack.TheVariants as Tack
 use Rattle.situation.specs.declared.party.VesselCategory.{VesselCategory}
@@ -34,4 +35,6 @@ is_known None = false
 is_known (Some d) = true
 
 abbrev pub Settled : ColregsConfig → Situation → Type 0
-Settled config s = T (on_tack s.own.category) → T (on_tack s.target.category) → T (is_known s.wind_from) → T (is_settled (ruling_of config (geometry_of s)).responsibility)
+Settled config s =
+    T (on_tack s.own.category) → T (on_tack s.target.category) → T (is_known s.wind_from)
+    → T (is_settled (ruling_of config (geometry_of s)).responsibility)

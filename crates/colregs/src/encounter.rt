@@ -10,8 +10,9 @@ use situation::config::ColregsConfig;
 // Nearer to the bow than this, in degrees, is dead ahead.
 const DEAD_AHEAD: f64 = 1e-9;
 
-// The widths and the geometry stay two arguments: as methods of a struct of both (tried, and proved) the functions below are 11 lines longer, and each
-// says `self.config` and `self.f` where it has `config` and `f` now.
+// The widths and the geometry stay two arguments: as methods of a struct of both (tried, and
+// proved) the functions below are 11 lines longer, and each says `self.config` and `self.f` where
+// it has `config` and `f` now.
 
 // Rule 13(b): whether a direction off a vessel's bow is more than the limit abaft her beam.
 #[tactic(auto, unfolding(crate::specs::Colregs::abaft))]

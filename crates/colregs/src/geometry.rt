@@ -1,4 +1,5 @@
-// The geometry of a situation, and the other facts of it that the rules speak of (rules.rs, `geometry_of`).
+// The geometry of a situation, and the other facts of it that the rules speak of (rules.rs,
+// `geometry_of`).
 ghost use Rattle.std.specs.Prelude.{◌≡◌};
 ghost use Rattle.colregs.specs.Geometry as Spec;
 
@@ -7,8 +8,8 @@ use motion::vessel;
 use motion::vessel::{Components, Contact, Vessel};
 use situation::party::{Situation, VesselCategory, Visibility};
 
-// Which of two sailing vessels is to windward of the other.
-// Three values and no `Option`: each, the unknown one too, has a duty of its own in `responsibility::windward_gives_way`.
+// Which of two sailing vessels is to windward of the other. Three values and no `Option`: each, the
+// unknown one too, has a duty of its own in `responsibility::windward_gives_way`.
 #[derive(Clone, Copy)]
 pub(crate) enum Windward {
     Unknown,
@@ -16,7 +17,8 @@ pub(crate) enum Windward {
     Target,
 }
 
-// `relative` is the target off own bow, `aspect` own craft off the target's, in degrees, positive to starboard.
+// `relative` is the target off own bow, `aspect` own craft off the target's, in degrees, positive
+// to starboard.
 #[derive(Clone, Copy)]
 pub(crate) struct Geometry {
     pub relative: f64,

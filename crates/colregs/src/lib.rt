@@ -1,4 +1,5 @@
-// COLREGs Rules 12 to 19, after rules.rs: the geometry of a situation, the encounter, who keeps out of the way, what is permitted.
+// COLREGs Rules 12 to 19, after rules.rs: the geometry of a situation, the encounter, who keeps out
+// of the way, what is permitted.
 #![tactic(auto)]
 
 pub mod answer;

@@ -1,4 +1,5 @@
-// Who keeps out of the way, and by which rule: the first rule that speaks, in the order of colregs/specs/Colregs.antt.
+// Who keeps out of the way, and by which rule: the first rule that speaks, in the order of
+// colregs/specs/Colregs.antt.
 ghost use Rattle.std.specs.Prelude.{◌≡◌, [], ◌∷◌};
 ghost use Rattle.colregs.specs.Colregs as Spec;
 ghost use Rattle.colregs.specs.Said as Says;

@@ -1,5 +1,6 @@
-// The ruling of COLREGs on an encounter of two vessels: what kind it is, who keeps out of the way, by which rule, and which
-// manoeuvres that permits. The port of kinavis-colregs; colregs/specs/Colregs.antt has the rules, one definition each.
+// The ruling of COLREGs on an encounter of two vessels: what kind it is, who keeps out of the way,
+// by which rule, and which manoeuvres that permits. The port of kinavis-colregs;
+// colregs/specs/Colregs.antt has the rules, one definition each.
 ghost use Rattle.std.specs.Prelude.{◌≡◌};
 ghost use Rattle.colregs.specs.Colregs as Spec;
 
@@ -44,7 +45,8 @@ fn rule19_starboard(relative: f64) -> bool
     forward_of_beam(relative) || !(relative >= 0.0)
 }
 
-// Rule 19(d): not to port for a vessel forward of the beam, unless she is overtaken, nor towards one abeam or abaft it.
+// Rule 19(d): not to port for a vessel forward of the beam, unless she is overtaken, nor towards
+// one abeam or abaft it.
 #[tactic(auto, unfolding(crate::specs::Colregs::rule19_port))]
 fn rule19_port(e: Encounter, relative: f64) -> bool
     ensures { result ≡ Spec.rule19_port e relative }
@@ -112,7 +114,8 @@ fn ruling_of(config: ColregsConfig, f: Geometry) -> Ruling
     }
 }
 
-// The ruling on a situation. Arguments are checked in document 01's order: own craft, the contact, the target, the wind, the widths.
+// The ruling on a situation. Arguments are checked in document 01's order: own craft, the contact,
+// the target, the wind, the widths.
 pub fn rule_of_the_road(s: Situation, config: ColregsConfig) -> Result<Ruling, Refusal>
     ensures { result ≡ Spec.ruling_answer s config }
 {

@@ -5,6 +5,7 @@ use mathlib.Core.List.{List, [], ◌∷◌}
 use Prim.Native.Nat.{ℕ, suc, ◌+◌, ◌*◌, ◌/◌, ◌%◌}
 use lib.Ieee.{Float, binary64, of_bits, to_bits}
 use Rattle.motion.specs.declared.units.Angle.{Angle}
+use Rattle.motion.specs.declared.units.Direction.{Direction}
 use Rattle.motion.specs.declared.units.Distance.{Distance}
 use Rattle.motion.specs.declared.units.RateOfTurn.{RateOfTurn}
 use Rattle.motion.specs.declared.vessel.Vessel.{Vessel}
@@ -17,8 +18,6 @@ use Rattle.std.specs.declared.result.Result.{Result}
 use Rattle.elementary.specs.declared.error.Refusal.{Refusal}
 use Rattle.manoeuvre.specs.declared.AvoidanceManoeuvre.{AvoidanceManoeuvre}
 use Rattle.math.specs.declared.duration.Duration.{Duration}
-use Rattle.relative_motion.specs.Approach.{approach_kind}
-use Rattle.relative_motion.specs.declared.best_course.Best.{Best}
 use Rattle.motion.specs.declared.side.BySide.{BySide}
 use Rattle.assessment.specs.declared.policy.CpaPolicy.{CpaPolicy}
 use Rattle.assessment.specs.Risk.{rank}
@@ -56,22 +55,32 @@ moving course speed = vessel (direction course) speed
 abbrev pub at : ℕ → ℕ → Contact
 at bearing range = contact (direction bearing) range
 
+-- on a course by its bits; at a range by its bits
+abbrev pub steering : ℕ → ℕ → Vessel
+steering course speed = vessel (record { 0 = bits course }) speed
+
+abbrev pub away : ℕ → ℕ → Contact
+away bearing range = record { bearing = direction bearing; range = record { 0 = bits range } }
+
 abbrev pub miles : ℕ → Distance
 miles n = record { 0 = number n }
 
 abbrev pub degrees : ℕ → Angle
 degrees n = record { 0 = number n }
 
--- 1 nm and 1,800 s; a closest approach by the bits of its distance
+-- limits, of which the distance is given by its bits; 1 nm and 1,800 s; a closest approach by the bits of its distance
+abbrev pub within : ℕ → ℕ → ℕ → CpaPolicy
+within distance secs nanos = record { cpa_limit = record { 0 = bits distance }; tcpa_limit = record { secs = secs; nanos = nanos } }
+
 abbrev pub limits : CpaPolicy
-limits = record { cpa_limit = miles 1; tcpa_limit = record { secs = 1800; nanos = 0 } }
+limits = within 0x3ff0_0000_0000_0000 1800 0
 
 abbrev pub nearing : ℕ → ℕ → ℕ → Cpa
 nearing distance secs nanos = record { distance = record { 0 = bits distance }; time_to_go = record { secs = secs; nanos = nanos }; bearing = direction 0 }
 
 -- a power-driven vessel on a course by its bits; own craft north at 10 knots and a contact off a bearing by its bits, 5 nm away
 abbrev pub on : ℕ → ℕ → Party
-on course speed = party (vessel (record { 0 = bits course }) speed) PowerDriven
+on course speed = party (steering course speed) PowerDriven
 
 abbrev pub off : ℕ → Party → Situation
 off bearing target = situation (power 0 10) target (contact (record { 0 = bits bearing }) 5) InSight
@@ -116,6 +125,9 @@ sheet [] = []
 sheet (w ∷ ws) = w % 256 ∷ w / 256 % 256 ∷ w / 65536 % 256 ∷ w / 16777216 ∷ sheet ws
 
 -- ---- figures
+abbrev pub pattern : Float → ℕ
+pattern x = to_bits binary64 x
+
 -- a text as one number, to the base 256, with a 1 in front
 unfoldable pub spelled : ℕ → List ℕ → ℕ
 spelled n [] = n
@@ -123,28 +135,23 @@ spelled n (b ∷ bs) = spelled (n * 256 + b) bs
 
 -- 0 closing, 1 opening, 2 stationary, 9 refused
 abbrev pub kind : Result (Track Cpa) Refusal → ℕ
-kind (Ok a) = approach_kind a
+kind (Ok (Track.Closing cpa)) = 0
+kind (Ok (Track.Opening range)) = 1
+kind (Ok (Track.Stationary range)) = 2
 kind (Err why) = 9
-
--- how many sides have a course
-abbrev held : Option Best → ℕ
-held None = 0
-held (Some b) = 1
-
-abbrev pub courses : BySide (Option Best) → ℕ
-courses c = held c.starboard + held c.port
-
-abbrev pub none : BySide (Option Best)
-none = record { starboard = None; port = None }
 
 abbrev seconds_in : Option Cpa → ℕ
 seconds_in None = 0
 seconds_in (Some c) = c.time_to_go.secs
 
--- the risk's rank, and the whole seconds to go
+-- the risk's rank, the drift by its bits, and the whole seconds to go
 abbrev pub risk_in : Result CollisionAssessment Refusal → ℕ
 risk_in (Ok a) = rank a.risk
 risk_in (Err why) = 9
+
+abbrev pub drift_in : Result CollisionAssessment Refusal → ℕ
+drift_in (Ok a) = pattern a.bearing_drift.0
+drift_in (Err why) = 9
 
 abbrev pub time_in : Result CollisionAssessment Refusal → ℕ
 time_in (Ok a) = seconds_in a.cpa
@@ -154,9 +161,6 @@ time_in (Err why) = 9
 abbrev pub seconds : Option Duration → ℕ
 seconds None = 1
 seconds (Some d) = d.secs
-
-abbrev pub pattern : Float → ℕ
-pattern x = to_bits binary64 x
 
 -- 1 starboard, 2 port
 abbrev pub side_code : Side → ℕ
@@ -168,7 +172,20 @@ abbrev limiting_code : Option ℕ → ℕ
 limiting_code None = 0
 limiting_code (Some place) = suc place
 
+-- a course by its bits, 0 where there is none
+abbrev course_bits : Option Direction → ℕ
+course_bits None = 0
+course_bits (Some d) = pattern d.0
+
 -- of an answer: its parts, or 9 where it is refused
+abbrev pub starboard_in : Result (BySide (Option Direction)) Refusal → ℕ
+starboard_in (Ok c) = course_bits c.starboard
+starboard_in (Err why) = 9
+
+abbrev pub port_in : Result (BySide (Option Direction)) Refusal → ℕ
+port_in (Ok c) = course_bits c.port
+port_in (Err why) = 9
+
 abbrev pub alteration_in : Result AvoidanceManoeuvre Refusal → ℕ
 alteration_in (Ok m) = pattern m.alteration.0
 alteration_in (Err why) = 9

@@ -1,4 +1,5 @@
 -- Document 01's marked corners, the examples of its table of refusals, and the reading of its sample sheet, in one table: what the definitions compute, and what it must be. The quoted sentences are document 01's.
+use Rattle.elementary.specs.Refusal.{answer_number}
 use Rattle.std.specs.Prelude.{None, Some}
 use mathlib.Core.Path.{◌≡◌, refl}
 use mathlib.Core.Bool.{false, true}
@@ -7,7 +8,6 @@ use Prim.Native.Nat.{ℕ}
 use Prim.Native.String.{String}
 use lib.ListN.{length}
 use lib.Ieee.{add, div, eq, le, lt, mul, neg, of_bits, of_int, rem, round, size, sub, to_bits, to_unsigned}
-use lib.Ieee.Scale.{finite}
 use Rattle.laws.specs.Fold.{fold}
 use Rattle.laws.specs.Rows.{Row, every, row}
 use Rattle.laws.specs.Units.{units_of}
@@ -41,11 +41,11 @@ use Rattle.motion.specs.Check.{encounter_checks, is_direction, is_distance, is_s
 use Rattle.elementary.specs.declared.error.Refusal.TheVariants as Refusal
 use Rattle.relative_motion.specs.declared.approach.Track.TheVariants as Track
 use Rattle.assessment.specs.declared.risk.CollisionRisk.TheVariants as Risk
-use Rattle.relative_motion.specs.Approach.{approach, approach_from, closest, closing_rate, cpa_answer, cpa_number, relative_speed, time_of, time_to_go}
-use Rattle.relative_motion.specs.Bow.{bow_answer, bow_number, crossing, determinant}
-use Rattle.relative_motion.specs.Plot.{plot_answer, plot_checks, plot_number, plot_verdict, relative_motion, solution, solved}
+use Rattle.relative_motion.specs.Approach.{approach, approach_from, closest, closing_rate, cpa_answer, relative_speed, time_of, time_to_go}
+use Rattle.relative_motion.specs.Bow.{bow_answer, crossing, determinant}
+use Rattle.relative_motion.specs.Plot.{plot_answer, plot_checks, plot_verdict, relative_motion, solution, solved}
 use Rattle.relative_motion.specs.Plot as plots
-use Rattle.relative_motion.specs.Course.{along, at_speed, avoidance_of, choice_of, clamped, course_answer, course_for, course_number, grazing, offered}
+use Rattle.relative_motion.specs.Course.{along, at_speed, avoidance_of, choice_of, clamped, course_answer, course_for, grazing, offered}
 use Rattle.situation.specs.Arguments.{is_width, party_checks, situation_checks}
 use Rattle.situation.specs.Situation.{heading, party, situation, with_heading, with_wind_from}
 use Rattle.situation.specs.declared.party.Visibility.TheVariants.{Restricted}
@@ -56,27 +56,27 @@ use Rattle.colregs.specs.declared.answer.Responsibility.TheVariants.{Both, GiveW
 use Rattle.colregs.specs.declared.answer.Rule.TheVariants.{Rule12, Rule13, Rule14, Rule15, Rule17, Rule19}
 use Rattle.motion.specs.declared.side.Side.TheVariants.{Port, Starboard}
 use Rattle.assessment.specs.Policy.{policy_answer}
-use Rattle.assessment.specs.Risk.{drift_of, drift_per_hour, rank, risk_at}
+use Rattle.assessment.specs.Risk.{drift_of, drift_per_hour, risk_at}
 use Rattle.assessment.specs.Assess.{assess_answer, assessment}
 use Rattle.manoeuvre.specs.Trials.{last, trial, trials, trials_from}
-use Rattle.manoeuvre.specs.Constraints.{constraint_checks, constraints_answer, constraints_number, with_rate_of_turn}
+use Rattle.manoeuvre.specs.Constraints.{constraint_checks, constraints_answer, with_rate_of_turn}
 use Rattle.manoeuvre.specs.Manoeuvre as manoeuvres
 use Rattle.manoeuvre.specs.declared.constraints.PermittedSides.TheVariants as Sides
 use Rattle.clearance.specs.Clearing.{altered, clearing, clears, floor_of, nearer, contact_clears, tally}
 use Rattle.clearance.specs.Traffic.{contacts_checks, entry_checks, target_of}
 use Rattle.avoidance.specs.Search.{choice, search, first, or_first, side_choice, trial_clears}
-use Rattle.ruled_search.specs.Ruled.{answered, in_both, ruled, ruled_answer, ruled_checks, ruled_number, shared_sides, sides_of}
+use Rattle.ruled_search.specs.Ruled.{answered, in_both, ruled, ruled_answer, ruled_checks, shared_sides, sides_of}
 use Rattle.sheet_record.specs.Word.{in_order, layout, ordered, words}
 use Rattle.sheet_record.specs.Record.{contact_count, first_rows, header_of, readable, row_from, rows_of}
 use Rattle.sheet.specs.Values.{category_of, entry_of, own_of, party_of, vessel_of, visibility_of, wind_from}
 use Rattle.sheet.specs.Values as values
 use Rattle.sheet.specs.Sheet.{category_checks, code_checks, sheet_verdict, value_checks}
 use Rattle.lines.specs.Lines.{alter_line, contact_line, refused_line}
-use Rattle.colregs.proofs.Rows.{contact, direction, heads, number, power, refuses, rules, seen, unseen, wind}
+use Rattle.colregs.proofs.Rows.{direction, heads, number, power, refuses, rules, rules_by, seen, unseen, wind}
 use Rattle.avoidance.specs.Avoid.{avoid_answer, avoid_checks, avoided, seed, seeded_choice, seeded_side}
 use Rattle.report.specs.Contacts.{contact_lines, line_of}
 use Rattle.report.specs.Report.{search_answer, constraints_of, id_at, lines_of, policy_of, report}
-use Rattle.corners.proofs.Figures.{ahead, alteration_in, at, between, bits, closing, course_in, courses, degrees, kind, limiting_in, limits, magnitude_in, meets, miles, moving, nearing, none, north, off, on, passing_in, pattern, risk_in, ruling, searched, seconds, sheet, side_code, side_in, spelled, time_in, turn, turning, widths, with_rate}
+use Rattle.corners.proofs.Figures.{ahead, alteration_in, at, away, between, bits, closing, course_in, degrees, drift_in, kind, limiting_in, limits, magnitude_in, meets, miles, moving, north, off, on, passing_in, pattern, port_in, risk_in, ruling, searched, seconds, sheet, side_code, side_in, spelled, starboard_in, steering, time_in, turn, turning, widths, with_rate, within}
 
 -- document 01's sample sheet: the header's words, and the contact's
 abbrev sample_header : List ℕ
@@ -109,38 +109,42 @@ table =
     ∷ row (kind (cpa_answer (moving 0 10) (at 0 0) (moving 0 0))) 1
     ∷ row (kind (cpa_answer (moving 0 10) (at 180 1) (moving 0 0))) 1
     -- '`course_for_cpa` with desired equal to range refuses with 9. That comes before 10 (own speed 0)'
-    ∷ row (course_number (course_answer (moving 0 10) (at 0 4) (moving 0 0) (miles 4))) 9
-    ∷ row (course_number (course_answer (moving 0 0) (at 0 4) (moving 0 0) (miles 4))) 9
-    ∷ row (course_number (course_answer (moving 0 0) (at 0 4) (moving 0 0) (miles 1))) 10
-    -- 'an alteration of exactly 0 belongs to neither side'
-    ∷ row (courses (offered (number 10) (number 10) none)) 0
-    ∷ row (courses (offered (number 10) (number 4) none)) 1
+    ∷ row (answer_number (course_answer (moving 0 10) (at 0 4) (moving 0 0) (miles 4))) 9
+    ∷ row (answer_number (course_answer (moving 0 0) (at 0 4) (moving 0 0) (miles 4))) 9
+    ∷ row (answer_number (course_answer (moving 0 0) (at 0 4) (moving 0 0) (miles 1))) 10
+    -- 'an alteration of exactly 0 belongs to neither side': own craft on the very course that passes at 1 nm has the one beyond the contact left; from the float below it that course is to starboard
+    ∷ row (starboard_in (course_answer (steering 0x403e_85c1_c2e9_fd4d 10) (at 45 4) (moving 0 0) (miles 1))) 0x404d_bd1f_1e8b_0159
+    ∷ row (port_in (course_answer (steering 0x403e_85c1_c2e9_fd4d 10) (at 45 4) (moving 0 0) (miles 1))) 0
+    ∷ row (starboard_in (course_answer (steering 0x403e_85c1_c2e9_fd4c 10) (at 45 4) (moving 0 0) (miles 1))) 0x403e_85c1_c2e9_fd4d
     -- the examples of the table of refusals: 1, 2, 3, 6, 7, 8, 9 and 11
-    ∷ row (cpa_number (cpa_answer (moving 360 10) (at 0 4) (moving 0 0))) 1
-    ∷ row (cpa_number (cpa_answer (north 0x408f_4400_0000_0000) (at 0 4) (moving 0 0))) 2
-    ∷ row (cpa_number (cpa_answer (moving 0 10) (contact (direction 0) 10001) (moving 0 0))) 3
-    ∷ row (plot_number (plot_answer (moving 0 10) (at 0 4) (at 0 1) (record { secs = 0; nanos = 0 }))) 6
-    ∷ row (bow_number (bow_answer (moving 0 10) (at 0 4) (moving 0 10))) 7
-    ∷ row (bow_number (bow_answer (moving 0 10) (at 180 4) (moving 90 10))) 8
-    ∷ row (course_number (course_answer (moving 0 10) (at 0 1) (moving 0 0) (miles 1))) 9
-    ∷ row (course_number (course_answer (moving 0 1) (at 180 4) (moving 0 20) (miles 1))) 11
+    ∷ row (answer_number (cpa_answer (moving 360 10) (at 0 4) (moving 0 0))) 1
+    ∷ row (answer_number (cpa_answer (north 0x408f_4400_0000_0000) (at 0 4) (moving 0 0))) 2
+    ∷ row (answer_number (cpa_answer (moving 0 10) (away 0 0xbff0_0000_0000_0000) (moving 0 0))) 3
+    ∷ row (answer_number (cpa_answer (moving 0 10) (at 0 10001) (moving 0 0))) 3
+    ∷ row (answer_number (plot_answer (moving 0 10) (at 0 4) (at 0 1) (record { secs = 0; nanos = 0 }))) 6
+    ∷ row (answer_number (bow_answer (moving 0 10) (at 0 4) (moving 0 10))) 7
+    ∷ row (answer_number (bow_answer (moving 0 10) (at 180 4) (moving 90 10))) 8
+    ∷ row (answer_number (course_answer (moving 0 10) (at 0 1) (moving 0 0) (miles 1))) 9
+    ∷ row (answer_number (course_answer (moving 0 1) (at 180 4) (moving 0 20) (miles 1))) 11
     -- ---- rules.rs
     -- 'closing, relative 0, aspect 112.5: not overtaking. Any aspect above is'
-    ∷ rules (seen (power 0 20) 0 5 (on 0x4050_e000_0000_0000 10)) (Crossing Port) StandOn Rule17 true false
-    ∷ rules (seen (power 0 20) 0 5 (on 0x4050_dfff_ffff_ffff 10)) Overtaking GiveWay Rule13 true true
+    ∷ rules (seen (power 0 20) 0 5 (on 0x4050_e000_0000_0000 10)) (Crossing Port) StandOn Rule17 true false true true
+    ∷ rules (seen (power 0 20) 0 5 (on 0x4050_dfff_ffff_ffff 10)) Overtaking GiveWay Rule13 true true true false
     -- 'relative 6 and aspect 6: head_on. Relative 6, aspect 7: crossing'
-    ∷ rules (seen (power 0 10) 6 5 (power 180 10)) HeadOn Both Rule14 true false
-    ∷ rules (seen (power 0 10) 6 5 (power 179 10)) (Crossing Starboard) GiveWay Rule15 true false
+    ∷ rules (seen (power 0 10) 6 5 (power 180 10)) HeadOn Both Rule14 true false true false
+    ∷ rules (seen (power 0 10) 6 5 (power 179 10)) (Crossing Starboard) GiveWay Rule15 true false true false
     -- 'both astern of each other, closing, equal speeds: BeingOvertaken for the asker'; the faster one overtakes
-    ∷ rules (seen (heads 180 (power 0 5)) 0 2 (heads 0 (power 180 5))) BeingOvertaken StandOn Rule13 true true
-    ∷ rules (seen (heads 180 (power 0 6)) 0 2 (heads 0 (power 180 5))) Overtaking GiveWay Rule13 true true
+    ∷ rules (seen (heads 180 (power 0 5)) 0 2 (heads 0 (power 180 5))) BeingOvertaken StandOn Rule13 true true true true
+    ∷ rules (seen (heads 180 (power 0 6)) 0 2 (heads 0 (power 180 5))) Overtaking GiveWay Rule13 true true true false
     -- 'relative magnitude below 1e-9: the side is starboard if aspect is negative, else port'; at 1e-9 the bearing decides
-    ∷ rules (off 0x3e11_2e0b_e826_d694 (power 270 10)) (Crossing Starboard) GiveWay Rule15 true false
-    ∷ rules (off 0x3e11_2e0b_e826_d694 (power 90 10)) (Crossing Port) StandOn Rule17 true false
-    ∷ rules (off 0x3e11_2e0b_e826_d695 (power 90 10)) (Crossing Starboard) GiveWay Rule15 true false
+    ∷ rules (off 0x3e11_2e0b_e826_d694 (power 270 10)) (Crossing Starboard) GiveWay Rule15 true false true false
+    ∷ rules (off 0x3e11_2e0b_e826_d694 (power 90 10)) (Crossing Port) StandOn Rule17 true false true true
+    ∷ rules (off 0x3e11_2e0b_e826_d695 (power 90 10)) (Crossing Starboard) GiveWay Rule15 true false true false
+    -- an aspect of exactly 0, which a half-width of 0 lets be no head-on: 'else port'
+    ∷ rules_by (record { overtaking_abaft_beam = record { 0 = bits 0x4036_8000_0000_0000 }; head_on_half_width = record { 0 = number 0 } }) (off 0x1 (power 180 10)) (Crossing Port) StandOn Rule17 true false true true
     -- 'restricted visibility, relative 90: not forward of the beam, so port only'
-    ∷ rules (unseen (power 0 10) 90 5 (power 270 10)) (Crossing Starboard) Both Rule19 false true
-    ∷ rules (unseen (power 0 10) 89 5 (power 270 10)) (Crossing Starboard) Both Rule19 true false
+    ∷ rules (unseen (power 0 10) 90 5 (power 270 10)) (Crossing Starboard) Both Rule19 false true true false
+    ∷ rules (unseen (power 0 10) 89 5 (power 270 10)) (Crossing Starboard) Both Rule19 true false true false
     -- the example of refusal 12, with either width, and the order: own, contact, target, wind, widths
     ∷ refuses (seen (power 0 10) 45 5 (power 270 10)) (widths 91 6) 12
     ∷ refuses (seen (power 0 10) 45 5 (power 270 10)) (widths 22 91) 12
@@ -151,11 +155,11 @@ table =
     ∷ refuses (seen (heads 360 (power 0 1001)) 45 10001 (power 270 1001)) (widths 91 6) 2
     -- ---- assessment.rs
     -- 'CPA equal to the limit isn't Passing; time equal to the limit isn't Developing'
-    ∷ row (rank (risk_at limits (nearing 0x3ff0_0000_0000_0000 1800 0))) 3
-    ∷ row (rank (risk_at limits (nearing 0x3ff0_0000_0000_0001 1800 0))) 1
-    ∷ row (rank (risk_at limits (nearing 0x3ff0_0000_0000_0000 1800 1))) 2
-    -- range 0 gives drift 0
-    ∷ row (pattern (drift_of (bits 0) (record { north = bits 0; east = bits 0 }) (record { north = number 10; east = number 4 })).0) 0
+    ∷ row (risk_in (assess_answer (moving 0 10) (at 45 4) (moving 0 0) (within 0x4006_a09e_667f_3bcc 1018 233764909))) 3
+    ∷ row (risk_in (assess_answer (moving 0 10) (at 45 4) (moving 0 0) (within 0x4006_a09e_667f_3bcb 1018 233764909))) 1
+    ∷ row (risk_in (assess_answer (moving 0 10) (at 45 4) (moving 0 0) (within 0x4006_a09e_667f_3bcc 1018 233764908))) 2
+    -- 'range 0 gives drift 0'
+    ∷ row (drift_in (assess_answer (moving 0 10) (at 0 0) (moving 90 4) limits)) 0
     -- the sample sheet's contact: dangerous, in 1440 s
     ∷ row (risk_in (assess_answer (moving 0 10) (at 0 4) (moving 0 0) limits)) 3
     ∷ row (time_in (assess_answer (moving 0 10) (at 0 4) (moving 0 0) limits)) 1440
@@ -168,9 +172,9 @@ table =
     ∷ row (last (bits 0x4031_6340_9915_bf5e) (bits 0x4058_58d0_2645_6fd7)) 80
     ∷ row (pattern (trial (bits 0x4031_6340_9915_bf5e) (bits 0x4058_58d0_2645_6fd7) 80)) 0x4058_58d0_2645_6fd7
     -- 'a closing contact clears at exactly desired minus 1e-9 and above': here 0, at a desired 1e-9 and at the float above it
-    ∷ row (ruled_number (searched 1 (ahead ∷ []) (record { 0 = bits 0x3e11_2e0b_e826_d695 }) 0 0)) 0
+    ∷ row (answer_number (searched 1 (ahead ∷ []) (record { 0 = bits 0x3e11_2e0b_e826_d695 }) 0 0)) 0
     ∷ row (limiting_in (searched 1 (ahead ∷ []) (record { 0 = bits 0x3e11_2e0b_e826_d695 }) 0 0)) 1
-    ∷ row (ruled_number (searched 1 (ahead ∷ []) (record { 0 = bits 0x3e11_2e0b_e826_d696 }) 0 0)) 5
+    ∷ row (answer_number (searched 1 (ahead ∷ []) (record { 0 = bits 0x3e11_2e0b_e826_d696 }) 0 0)) 5
     -- 'no contacts: the least alteration, passing distance `f64::MAX`, no limiting contact'
     ∷ row (magnitude_in (searched 0 [] (miles 1) 4 90)) 0x4010_0000_0000_0000
     ∷ row (side_in (searched 0 [] (miles 1) 4 90)) 1
@@ -180,21 +184,21 @@ table =
     ∷ row (alteration_in (avoid_answer (moving 0 10) (at 45 4) (moving 0 0) (miles 1) (between Sides.Starboard 0 180))) 0x403e_85c1_c2e9_fd4d
     ∷ row (alteration_in (avoid_answer (moving 0 10) (at 45 4) (moving 0 0) (miles 1) (between Sides.Either 0 180))) 0x8000_0000_0000_0000
     -- the example of refusal 4; rates of 0 and 1e-310: 4; a rate of -1 is taken by its size; 1e-300 is accepted and its time is none
-    ∷ row (constraints_number (constraints_answer Sides.Either (degrees 10) (degrees 4))) 4
-    ∷ row (constraints_number (constraints_answer Sides.Either (degrees 0) (degrees 180))) 0
-    ∷ row (constraints_number (with_rate (constraints_answer Sides.Either (degrees 0) (degrees 180)) 0)) 4
-    ∷ row (constraints_number (with_rate (constraints_answer Sides.Either (degrees 0) (degrees 180)) 0x0000_1268_8b70_e62b)) 4
-    ∷ row (constraints_number (with_rate (constraints_answer Sides.Either (degrees 0) (degrees 180)) 0xbff0_0000_0000_0000)) 0
-    ∷ row (constraints_number (with_rate (constraints_answer Sides.Either (degrees 0) (degrees 180)) 0x01a5_6e1f_c2f8_f359)) 0
+    ∷ row (answer_number (constraints_answer Sides.Either (degrees 9) (degrees 8))) 4
+    ∷ row (answer_number (constraints_answer Sides.Either (degrees 0) (degrees 180))) 0
+    ∷ row (answer_number (with_rate (constraints_answer Sides.Either (degrees 0) (degrees 180)) 0)) 4
+    ∷ row (answer_number (with_rate (constraints_answer Sides.Either (degrees 0) (degrees 180)) 0x0000_1268_8b70_e62b)) 4
+    ∷ row (answer_number (with_rate (constraints_answer Sides.Either (degrees 0) (degrees 180)) 0xbff0_0000_0000_0000)) 0
+    ∷ row (answer_number (with_rate (constraints_answer Sides.Either (degrees 0) (degrees 180)) 0x01a5_6e1f_c2f8_f359)) 0
     ∷ row (seconds (manoeuvres.turn_time (number 1) (Some (turning 0x01a5_6e1f_c2f8_f359)))) 1
     ∷ row (seconds (manoeuvres.turn_time (number 10) (Some (turning 0x4024_0000_0000_0000)))) 60
     -- an alteration of -0 is to starboard, of -1 to port
     ∷ row (side_code (manoeuvres.side_of (record { 0 = bits 0x8000_0000_0000_0000 }))) 1
     ∷ row (side_code (manoeuvres.side_of (record { 0 = bits 0xbff0_0000_0000_0000 }))) 2
     -- the examples of refusals 5 (range 0.5 on the bow, desired 1, most 5), 13 (restricted, one head_on, one at relative 120) and 14 (33 contacts)
-    ∷ row (ruled_number (searched 1 (meets (record { bearing = direction 0; range = record { 0 = bits 0x3fe0_0000_0000_0000 } }) (moving 0 0) ∷ []) (miles 1) 0 5)) 5
-    ∷ row (ruled_number (ruled_answer (power 0 10) 2 (meets (at 0 4) (moving 180 10) ∷ meets (at 120 4) (moving 270 10) ∷ []) Restricted None (miles 1) (between Sides.Either 0 5))) 13
-    ∷ row (ruled_number (searched 33 [] (miles 1) 0 5)) 14
+    ∷ row (answer_number (searched 1 (meets (record { bearing = direction 0; range = record { 0 = bits 0x3fe0_0000_0000_0000 } }) (moving 0 0) ∷ []) (miles 1) 0 5)) 5
+    ∷ row (answer_number (ruled_answer (power 0 10) 2 (meets (at 0 4) (moving 180 10) ∷ meets (at 120 4) (moving 270 10) ∷ []) Restricted None (miles 1) (between Sides.Either 0 5))) 13
+    ∷ row (answer_number (searched 33 [] (miles 1) 0 5)) 14
     -- ---- the encounter sheet
     -- the sample: starboard 15, course 15, 1.035 nm, the first contact; and what is printed on it
     ∷ row (side_in (searched 1 (ahead ∷ []) (miles 1) 0 90)) 1
@@ -203,8 +207,9 @@ table =
     ∷ row (passing_in (searched 1 (ahead ∷ []) (miles 1) 0 90)) 0x3ff0_907d_c193_0690
     ∷ row (limiting_in (searched 1 (ahead ∷ []) (miles 1) 0 90)) 1
     ∷ prints (sample_header ++ sample_contact) "CONTACT 7 CLOSING 0.000 1440 DANGEROUS OVERTAKING GIVEWAY 13\nALTER S 15.000 15.000 1.035 7\n"
-    -- without contacts; a header alone that lacks a word; a kind out of order; a category that is unknown
+    -- without contacts; the example of refusal 15, 3 bytes; a contact that is not whole; a kind out of order; the example of refusal 16, category 8
     ∷ prints sample_header "ALTER S 0.000 0.000 FREE NONE\n"
+    ∷ says (report (0 ∷ 0 ∷ 0 ∷ [])) "REFUSED 15\n"
     ∷ prints (sample_header ++ (0x9000_0007 ∷ [])) "REFUSED 15\n"
     ∷ prints (sample_contact ++ sample_header) "REFUSED 15\n"
     ∷ prints (sample_header ++ (0x9000_0007 ∷ 0xA000_0000 ∷ 0xB000_1000 ∷ 0xC000_0000 ∷ 0xD000_0000 ∷ 0xE000_0008 ∷ [])) "REFUSED 16\n"

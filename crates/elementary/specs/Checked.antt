@@ -1,24 +1,13 @@
 -- The refusing functions: inside the domain the number, outside it refusal number 1.
-use Rattle.std.specs.Prelude.{cond, ◌&&◌, ℕ, Float, Err, Ok}
-use Rattle.std.specs.Float.{nan}
+use Rattle.std.specs.Prelude.{cond, ◌&&◌, Float, Err, Ok}
 use Rattle.std.specs.Float.Ieee.{eq}
 use Rattle.roots.specs.Hypot.{hypot, in_domain}
 use Rattle.trigonometry.specs.Sine as Circular
 use Rattle.inverse_trigonometry.specs.Asin as Asin
 use Rattle.inverse_trigonometry.specs.Atan2 as Atan2
-use Rattle.elementary.specs.Refusal.{number_of}
 use Rattle.elementary.specs.declared.error.Refusal.TheVariants.{Angle}
 use Rattle.std.specs.declared.result.Result.{Result}
 use Rattle.elementary.specs.declared.error.Refusal.{Refusal}
-
--- document 01's number of an answer, 0 where there is a value, and that value
-abbrev pub refusal_in : Result Float Refusal → ℕ
-refusal_in (Ok x) = 0
-refusal_in (Err r) = number_of r
-
-abbrev pub value_in : Result Float Refusal → Float
-value_in (Ok x) = x
-value_in (Err r) = nan
 
 -- a value, or refusal 1 in place of a NaN
 unfoldable pub number_or_refused : Float → Result Float Refusal

@@ -1,5 +1,6 @@
 -- The numbers of document 01's table of refusals.
-use Rattle.std.specs.Prelude.{ℕ}
+use Rattle.std.specs.Prelude.{ℕ, Err, Ok}
+use Rattle.std.specs.declared.result.Result.{Result}
 use Rattle.elementary.specs.declared.error.Refusal.{Refusal}
 use Rattle.elementary.specs.declared.error.Refusal.TheVariants.{Angle, Speed, Distance, Constraints, NoTrialClears, Time, AlongOwnTrack, NotAhead, InsideDesired, NoOwnSpeed, NoOtherCourse, Config, NoSharedSide, TooManyContacts, Layout, UnknownCode}
 
@@ -20,3 +21,8 @@ number_of NoSharedSide = 13
 number_of TooManyContacts = 14
 number_of Layout = 15
 number_of UnknownCode = 16
+
+-- the number of any answer, 0 where there is one
+abbrev pub answer_number : {A : Type 0} → Result A Refusal → ℕ
+answer_number (Ok a) = 0
+answer_number (Err why) = number_of why

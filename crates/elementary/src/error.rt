@@ -6,7 +6,8 @@ ghost use Rattle.elementary.specs.Range.{in_range};
 // Why a function refuses. A refusal is its number in document 01's table and nothing else.
 #[derive(Clone, Copy)]
 pub enum Refusal {
-    // A course, heading, bearing or wind outside 0 to 360, another angle not finite, or an elementary function outside its domain.
+    // A course, heading, bearing or wind outside 0 to 360, another angle not finite, or an
+    // elementary function outside its domain.
     Angle = 1,
     // A speed not in 0 to 1,000 knots.
     Speed = 2,

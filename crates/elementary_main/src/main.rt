@@ -35,8 +35,9 @@ fn duration(secs: u64, nanos: u64) -> Duration {
     }
 }
 
-// The functions on floats whose answer is a float, by the record's numbers. A `match`, and no table of functions: some take one float and
-// some two, so that a table would hold a closure around each of the first.
+// The functions on floats whose answer is a float, by the record's numbers. A `match`, and no table
+// of functions: some take one float and some two, so that a table would hold a closure around each
+// of the first.
 fn number(which: u64, x: f64, y: f64) -> f64 {
     match which {
         0 => roots::sqrt(x),
@@ -86,7 +87,8 @@ fn other(which: u64, a: u64, b: u64) -> u64 {
     }
 }
 
-// Nothing is promised of what is answered but that it is answered: the Rust's own answers say what it is.
+// Nothing is promised of what is answered but that it is answered: the Rust's own answers say what
+// it is.
 struct Elementary;
 
 impl Replayed for Elementary {

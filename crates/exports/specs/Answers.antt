@@ -1,4 +1,6 @@
--- The answers of the C exports, as lists of words: word 0 is the refusal's number, or 0 where there is an answer; the others are 0 where it is refused. Floats are bit patterns, what may be missing has a word before it that says whether it is there.
+-- The answers of the C exports, as lists of words: word 0 is the refusal's number, or 0 where there
+-- is an answer; the others are 0 where it is refused. Floats are bit patterns, what may be missing
+-- has a word before it that says whether it is there.
 use Rattle.std.specs.Prelude.{cond, List, [], ◌∷◌, ◌++◌, ℕ, zero, suc, ◌+◌, ◌%◌, get_or, replicate, Float, None, Some, Ok, Err}
 use Rattle.std.specs.Int.{from_bool}
 use Rattle.std.specs.Float.{binary64}
@@ -44,7 +46,8 @@ abbrev pub refused : ℕ → Refusal → List ℕ
 refused zero why = []
 refused (suc n) why = number_of why ∷ replicate n 0
 
--- ---- an approach: 0 closing, 1 opening, 2 stationary; the distance; where it closes the bearing, seconds and nanoseconds
+-- ---- an approach: 0 closing, 1 opening, 2 stationary; the distance; where it closes the bearing,
+-- seconds and nanoseconds
 abbrev pub closing : Cpa → List ℕ
 closing cpa = 0 ∷ 0 ∷ pattern cpa.distance.0 ∷ pattern cpa.bearing.0 ∷ cpa.time_to_go.secs ∷ cpa.time_to_go.nanos ∷ []
 
@@ -107,7 +110,9 @@ abbrev pub courses_words : Result (BySide (Option Direction)) Refusal → List �
 courses_words (Ok a) = courses a
 courses_words (Err why) = refused 5 why
 
--- ---- a ruling: the encounter, 0 overtaking, 1 being overtaken, 2 head-on, 3 crossing from starboard, 4 from port; the responsibility, 0 give way, 1 stand on, 2 both, 3 undetermined; the rule's number; whether starboard, port, slowing down and holding on are permitted
+-- ---- a ruling: the encounter, 0 overtaking, 1 being overtaken, 2 head-on, 3 crossing from
+-- starboard, 4 from port; the responsibility, 0 give way, 1 stand on, 2 both, 3 undetermined; the
+-- rule's number; whether starboard, port, slowing down and holding on are permitted
 abbrev pub encounter_code : Encounter → ℕ
 encounter_code Overtaking = 0
 encounter_code BeingOvertaken = 1
@@ -134,7 +139,9 @@ ruling_words (Err why) = refused 8 why
 abbrev pub rank_words : ℕ → List ℕ
 rank_words rank = 0 ∷ rank ∷ []
 
--- ---- an assessment: relative course and speed, bearing drift; whether there is a closest approach, its distance, bearing, seconds and nanoseconds; whether there is a bow crossing, its distance; the risk's rank; range and bearing
+-- ---- an assessment: relative course and speed, bearing drift; whether there is a closest
+-- approach, its distance, bearing, seconds and nanoseconds; whether there is a bow crossing, its
+-- distance; the risk's rank; range and bearing
 abbrev pub nearest : Option Cpa → List ℕ
 nearest None = 0 ∷ 0 ∷ 0 ∷ 0 ∷ 0 ∷ []
 nearest (Some cpa) = 1 ∷ pattern cpa.distance.0 ∷ pattern cpa.bearing.0 ∷ cpa.time_to_go.secs ∷ cpa.time_to_go.nanos ∷ []
@@ -152,7 +159,9 @@ abbrev pub assessment_words : Result CollisionAssessment Refusal → List ℕ
 assessment_words (Ok a) = assessment a
 assessment_words (Err why) = refused 14 why
 
--- ---- a manoeuvre: the side, 0 starboard, 1 port; the alteration or its magnitude, the course, the passing distance; whether there is a turn time, its seconds and nanoseconds; the limiting contact's place and one, 0 for nobody
+-- ---- a manoeuvre: the side, 0 starboard, 1 port; the alteration or its magnitude, the course, the
+-- passing distance; whether there is a turn time, its seconds and nanoseconds; the limiting
+-- contact's place and one, 0 for nobody
 abbrev pub side : Side → ℕ
 side Side.Starboard = 0
 side Side.Port = 1
@@ -166,7 +175,9 @@ turn side size course passing None limiting = 0 ∷ side ∷ size ∷ course ∷
 turn side size course passing (Some d) limiting = 0 ∷ side ∷ size ∷ course ∷ passing ∷ 1 ∷ d.secs ∷ d.nanos ∷ limiting ∷ []
 
 abbrev pub avoidance : AvoidanceManoeuvre → List ℕ
-avoidance m = turn (side (side_of m.alteration)) (pattern m.alteration.0) (pattern m.course.0) (pattern m.least_passing.0) m.turn_time (limiting m.limiting)
+avoidance m =
+    turn (side (side_of m.alteration)) (pattern m.alteration.0) (pattern m.course.0) (pattern m.least_passing.0)
+    m.turn_time (limiting m.limiting)
 
 abbrev pub avoidance_words : Result AvoidanceManoeuvre Refusal → List ℕ
 avoidance_words (Ok m) = avoidance m
@@ -179,7 +190,8 @@ abbrev pub ruled_words : Result RuledManoeuvre Refusal → List ℕ
 ruled_words (Ok m) = ruled m
 ruled_words (Err why) = refused 9 why
 
--- the search alone, which refuses nothing: whether a trial was found, its side and magnitude, the passing distance, the limiting contact
+-- the search alone, which refuses nothing: whether a trial was found, its side and magnitude, the
+-- passing distance, the limiting contact
 abbrev pub chosen_words : Option Chosen → List ℕ
 chosen_words None = 0 ∷ 0 ∷ 0 ∷ 0 ∷ 0 ∷ 0 ∷ []
 chosen_words (Some c) = 0 ∷ 1 ∷ side c.side ∷ pattern c.magnitude.0 ∷ pattern c.clearance.distance.0 ∷ limiting c.clearance.limiting ∷ []

@@ -1,4 +1,6 @@
--- The arguments of the C exports, read from a list of words: own craft and what is the same for every contact in the first 20, then seven words for each contact. Floats are bit patterns, categories and visibilities have the sheet's codes; what the list lacks reads as 0.
+-- The arguments of the C exports, read from a list of words: own craft and what is the same for
+-- every contact in the first 20, then seven words for each contact. Floats are bit patterns,
+-- categories and visibilities have the sheet's codes; what the list lacks reads as 0.
 use Rattle.std.specs.Prelude.{cond, List, [], ◌∷◌, map, ℕ, ◌+◌, ◌-◌, ◌/◌, ◌%◌, ◌^◌, eqb, min, length, take, drop, get_or, replicate, Float, None, Some, Ok, Err}
 use Rattle.std.specs.Float.{binary64}
 use Rattle.std.specs.Float.Ieee.{of_bits}
@@ -57,7 +59,8 @@ around ws = record { own = own ws; visibility = visibility_of (code ws 5); wind_
 abbrev pub desired : List ℕ → Distance
 desired ws = record { 0 = float ws 8 }
 
--- 9 least and 10 most alteration, 11 whether there is a rate of turn, 12 the rate, 13 the sides: 0 either, 1 starboard, else port
+-- 9 least and 10 most alteration, 11 whether there is a rate of turn, 12 the rate, 13 the sides: 0
+-- either, 1 starboard, else port
 unfoldable pub sides : ℕ → PermittedSides
 sides code = cond (eqb code 0) Permitted.Either (cond (eqb code 1) Permitted.Starboard Permitted.Port)
 
@@ -70,7 +73,8 @@ constraints ws =
     let made = constraints_answer (sides (code ws 13)) (record { 0 = float ws 9 }) (record { 0 = float ws 10 }) in
     cond (eqb (word ws 11) 0) made (with_rate made (float ws 12))
 
--- 14 the limit of the closest approach, 15 and 16 that of the time to it, or the time between two plots: seconds and nanoseconds
+-- 14 the limit of the closest approach, 15 and 16 that of the time to it, or the time between two
+-- plots: seconds and nanoseconds
 abbrev pub elapsed : List ℕ → Duration
 elapsed ws = record { secs = word ws 15; nanos = code ws 16 }
 

@@ -14,9 +14,10 @@ use Rattle.assessment.specs.declared.target.TargetAssessment.{TargetAssessment}
 use Rattle.assessment.specs.Picture.{pushed, found, most_dangerous, at_least}
 use Rattle.clearance.specs.declared.traffic.Entry.{Entry}
 use Rattle.exports.specs.Answers.{pattern, refused, word}
-use Rattle.exports.specs.Arguments.{own, policy, entries}
+use Rattle.exports.specs.Arguments.{own, policy}
 
--- ---- the picture: the contacts that are assessed, numbered from 0 to 4 over and over, so that numbers repeat
+-- ---- the picture: the contacts that are assessed, numbered from 0 to 4 over and over, so that
+-- numbers repeat
 abbrev pub numbered : List TargetAssessment → CollisionAssessment → TargetAssessment
 numbered ts a = record { target = length ts % 5; assessment = a }
 
@@ -30,7 +31,9 @@ with_entry own policy ts e = with_answer ts (assess_answer own e.contact e.targe
 unfoldable pub pictured : Vessel → List Entry → CpaPolicy → List TargetAssessment
 pictured own es policy = fold (with_entry own policy) [] es
 
--- ---- its words: 1 the length, 2 the range of the most dangerous target, 3 to 7 that of the target numbered 0 to 4, 8 to 11 the length and 12 to 15 the range of the most dangerous of those of at least each risk; 0 for nobody
+-- ---- its words: 1 the length, 2 the range of the most dangerous target, 3 to 7 that of the target
+-- numbered 0 to 4, 8 to 11 the length and 12 to 15 the range of the most dangerous of those of at
+-- least each risk; 0 for nobody
 unfoldable pub risk_of : ℕ → CollisionRisk
 risk_of code = cond (eqb code 0) Risk.Opening (cond (eqb code 1) Risk.Passing (cond (eqb code 2) Risk.Developing Risk.Dangerous))
 

@@ -1,5 +1,5 @@
-// The answers of the C exports, as words: specs/Answers.antt says which word is what. Word 0 is the refusal's number, or 0 where there is an
-// answer; the others are 0 where it is refused.
+// The answers of the C exports, as words: specs/Answers.antt says which word is what. Word 0 is the
+// refusal's number, or 0 where there is an answer; the others are 0 where it is refused.
 ghost use Rattle.std.specs.Prelude.{◌≡◌};
 ghost use Rattle.exports.specs.Answers as Spec;
 
@@ -226,8 +226,9 @@ pub(crate) fn rank_words(rank: u8) -> [u64; 2]
 }
 
 // ---- an assessment
-// By a `match`: of a closure that makes an array `map_or` says nothing of what it returns (tried), and `p.map_or([0; 5], found)` wants `found`, a
-// second function with a contract of its own, for each of the two.
+// By a `match`: of a closure that makes an array `map_or` says nothing of what it returns (tried),
+// and `p.map_or([0; 5], found)` wants `found`, a second function with a contract of its own, for
+// each of the two.
 fn nearest(p: Option<Cpa>) -> [u64; 5]
     ensures { result ≡ Spec.nearest p }
 {

@@ -1,5 +1,6 @@
-// The arguments of the C exports, read from a list of words: specs/Arguments.antt says which word is what. Floats are bit patterns, categories
-// and visibilities have the sheet's codes; what the list lacks reads as 0.
+// The arguments of the C exports, read from a list of words: specs/Arguments.antt says which word
+// is what. Floats are bit patterns, categories and visibilities have the sheet's codes; what the
+// list lacks reads as 0.
 ghost use Rattle.std.specs.Prelude.{◌≡◌, length, get_or};
 ghost use Rattle.exports.specs.Arguments as Spec;
 

@@ -1,6 +1,7 @@
-// C exports of the module's functions, for the comparison with the Rust (docs/COMPARISON.md). Each takes its arguments as one list of words
-// (specs/Arguments.antt) and answers one word, the one of the place `part` of the answer (specs/Answers.antt). The arguments are checked in
-// document 01's order, limits and constraints too (specs/Asked.antt).
+// C exports of the module's functions, for the comparison with the Rust (docs/COMPARISON.md). Each
+// takes its arguments as one list of words (specs/Arguments.antt) and answers one word, the one of
+// the place `part` of the answer (specs/Answers.antt). The arguments are checked in document 01's
+// order, limits and constraints too (specs/Asked.antt).
 #![tactic(auto)]
 
 mod answers;
@@ -8,12 +9,7 @@ mod arguments;
 mod picture;
 
 ghost use Rattle.std.specs.Prelude.{◌≡◌};
-ghost use Rattle.relative_motion.specs.Approach as Approach;
-ghost use Rattle.relative_motion.specs.Bow as Bow;
-ghost use Rattle.relative_motion.specs.Plot as Plot;
-ghost use Rattle.relative_motion.specs.Course as Course;
 ghost use Rattle.situation.specs.Situation as Situation;
-ghost use Rattle.colregs.specs.Colregs as Colregs;
 ghost use Rattle.exports.specs.Answers as Answer;
 ghost use Rattle.exports.specs.Arguments as Argument;
 ghost use Rattle.exports.specs.Asked as Asked;
@@ -28,7 +24,7 @@ use ruled_search::RuledManoeuvre;
 
 #[unsafe(no_mangle)]
 pub extern "C" fn port_closest_point_of_approach(part: u32, words: &[u64]) -> u64
-    ensures { result ≡ Answer.word (Answer.approach_words (Approach.cpa_answer (Argument.own words.now).motion (Argument.entry words.now 0).contact (Argument.entry words.now 0).target.motion)) part }
+    ensures { result ≡ Answer.word (Answer.approach_words (Asked.cpa_asked words.now)) part }
 {
     let e = arguments::entry(words, 0);
     let answer = relative_motion::approach::closest_point_of_approach(
@@ -41,7 +37,7 @@ pub extern "C" fn port_closest_point_of_approach(part: u32, words: &[u64]) -> u6
 
 #[unsafe(no_mangle)]
 pub extern "C" fn port_approach_distance(part: u32, words: &[u64]) -> u64
-    ensures { result ≡ Answer.word (Answer.approach_distance_words (Approach.approach_distance_answer (Argument.own words.now).motion (Argument.entry words.now 0).contact (Argument.entry words.now 0).target.motion)) part }
+    ensures { result ≡ Answer.word (Answer.approach_distance_words (Asked.approach_distance_asked words.now)) part }
 {
     let e = arguments::entry(words, 0);
     let answer = relative_motion::approach::approach_distance(
@@ -54,7 +50,7 @@ pub extern "C" fn port_approach_distance(part: u32, words: &[u64]) -> u64
 
 #[unsafe(no_mangle)]
 pub extern "C" fn port_relative_bearing_of(part: u32, words: &[u64]) -> u64
-    ensures { result ≡ Answer.word (Answer.bearing_words (Approach.bearing_answer (Argument.own words.now).motion (Argument.entry words.now 0).contact)) part }
+    ensures { result ≡ Answer.word (Answer.bearing_words (Asked.bearing_asked words.now)) part }
 {
     let answer = relative_motion::approach::relative_bearing_of(
         arguments::own(words).motion,
@@ -65,7 +61,7 @@ pub extern "C" fn port_relative_bearing_of(part: u32, words: &[u64]) -> u64
 
 #[unsafe(no_mangle)]
 pub extern "C" fn port_bow_crossing_range(part: u32, words: &[u64]) -> u64
-    ensures { result ≡ Answer.word (Answer.range_words (Bow.bow_answer (Argument.own words.now).motion (Argument.entry words.now 0).contact (Argument.entry words.now 0).target.motion)) part }
+    ensures { result ≡ Answer.word (Answer.range_words (Asked.bow_asked words.now)) part }
 {
     let e = arguments::entry(words, 0);
     let answer = relative_motion::bow_crossing::bow_crossing_range(
@@ -79,7 +75,7 @@ pub extern "C" fn port_bow_crossing_range(part: u32, words: &[u64]) -> u64
 // The two plots are those of the first two contacts.
 #[unsafe(no_mangle)]
 pub extern "C" fn port_target_from_plot(part: u32, words: &[u64]) -> u64
-    ensures { result ≡ Answer.word (Answer.solution_words (Plot.plot_answer (Argument.own words.now).motion (Argument.entry words.now 0).contact (Argument.entry words.now 1).contact (Argument.elapsed words.now))) part }
+    ensures { result ≡ Answer.word (Answer.solution_words (Asked.plot_asked words.now)) part }
 {
     let answer = relative_motion::plot::target_from_plot(
         arguments::own(words).motion,
@@ -92,7 +88,7 @@ pub extern "C" fn port_target_from_plot(part: u32, words: &[u64]) -> u64
 
 #[unsafe(no_mangle)]
 pub extern "C" fn port_course_for_cpa(part: u32, words: &[u64]) -> u64
-    ensures { result ≡ Answer.word (Answer.courses_words (Course.course_answer (Argument.own words.now).motion (Argument.entry words.now 0).contact (Argument.entry words.now 0).target.motion (Argument.desired words.now))) part }
+    ensures { result ≡ Answer.word (Answer.courses_words (Asked.course_asked words.now)) part }
 {
     let e = arguments::entry(words, 0);
     let answer = relative_motion::course::course_for_cpa(
@@ -106,7 +102,7 @@ pub extern "C" fn port_course_for_cpa(part: u32, words: &[u64]) -> u64
 
 #[unsafe(no_mangle)]
 pub extern "C" fn port_rule_of_the_road(part: u32, words: &[u64]) -> u64
-    ensures { result ≡ Answer.word (Answer.ruling_words (Colregs.ruling_answer (Situation.with_contact (Argument.around words.now) (Argument.entry words.now 0).contact (Argument.entry words.now 0).target) (Argument.config words.now))) part }
+    ensures { result ≡ Answer.word (Answer.ruling_words (Asked.ruling_asked words.now)) part }
 {
     let e = arguments::entry(words, 0);
     let answer = colregs::rules::rule_of_the_road(

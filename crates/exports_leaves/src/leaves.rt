@@ -1,5 +1,5 @@
-// C exports of the leaf functions, for the comparison with Rust. Each passes its arguments on, and its contract is that of
-// the function that it exports.
+// C exports of the leaf functions, for the comparison with Rust. Each passes its arguments on, and
+// its contract is that of the function that it exports.
 ghost use Rattle.std.specs.Prelude.{◌≡◌};
 ghost use Rattle.math.specs.Cast as Cast;
 ghost use Rattle.math.specs.Rounded as Rounded;

@@ -1,5 +1,5 @@
-// The elementary functions for C, with NaN in place of refusal number 1. Each contract has the equation with the whole-number
-// method and what is proved of it.
+// The elementary functions for C, with NaN in place of refusal number 1. Each contract has the
+// equation with the whole-number method and what is proved of it.
 ghost use Rattle.std.specs.Prelude.{◌≡◌};
 ghost use Rattle.roots.specs.Sqrt.{sqrt, IsSqrt};
 ghost use Rattle.roots.specs.Hypot.{hypot, IsHypot};

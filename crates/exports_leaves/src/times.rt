@@ -1,13 +1,13 @@
-// C exports of the conversions of times, for the comparison with Rust. Each passes its arguments on, and its contract is that
-// of the function that it exports.
+// C exports of the conversions of times, for the comparison with Rust. Each passes its arguments
+// on, and its contract is that of the function that it exports.
 ghost use Rattle.std.specs.Prelude.{◌≡◌};
 ghost use Rattle.math.specs.Clock as Clock;
 ghost use Rattle.exports_leaves.specs.Time.{kind_of, secs_of, nanos_of};
 
 use math::duration::{Duration, TimeError};
 
-// The kind of a time answer: 0 for a time, 1 for too long, 2 for none; and its seconds and nanoseconds. The kind is the C interface's code
-// of a `Result`, which has no number of its own.
+// The kind of a time answer: 0 for a time, 1 for too long, 2 for none; and its seconds and
+// nanoseconds. The kind is the C interface's code of a `Result`, which has no number of its own.
 fn kind_in(t: Result<Duration, TimeError>) -> u32
     ensures { result ≡ kind_of t }
 {

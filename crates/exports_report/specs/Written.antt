@@ -1,4 +1,5 @@
--- A text written to the start of a buffer that has room for all of it, and the buffer left as it was where it has not.
+-- A text written to the start of a buffer that has room for all of it, and the buffer left as it
+-- was where it has not.
 use Rattle.std.specs.Prelude.{cond, List, ◌++◌, ℕ, leb, length, drop}
 
 unfoldable pub written : List ℕ → List ℕ → List ℕ

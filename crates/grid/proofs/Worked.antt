@@ -1,4 +1,6 @@
--- Worked examples, computed from the definitions: the arcsine of 1 / 2 and of 1 - 2 ^ -40 in units of 2 ^ -52, and an arctangent in steps. A computation of elementary.md's method apart from these definitions gives the same figures, which are within 2 ^ -49 of the C library's arcsine and arctangent.
+-- Worked examples, computed from the definitions: the arcsine of 1 / 2 and of 1 - 2 ^ -40 in units of
+-- 2 ^ -52, and an arctangent in steps. A computation of the method apart from these definitions gives
+-- the same figures, which are within 2 ^ -49 of the C library's arcsine and arctangent.
 use mathlib.Core.Path.{◌≡◌, refl}
 use Prim.Native.Nat.{◌-◌, ◌^◌}
 use Rattle.trigonometry.specs.Taylor.{sine_divisors, cosine_divisors}

@@ -1,6 +1,9 @@
--- The arcsine of X units of 2 ^ -58, from 0 to one, in units of 2 ^ -52 (elementary.md, sections 3, 4 and 12).
+-- The arcsine of X units of 2 ^ -58, from 0 to one, in units of 2 ^ -52 (docs/ELEMENTARY.md).
 --
--- Below the sine of a quarter pi it is the greatest step of the grid whose sine is at most X. Above, the angle that is left to half pi, b steps over f, has 1 - cosine = E / 2 ^ 58; both sides are scaled by 2 f², f a power of two with 2 ^ 54 ≤ E f², so that the test keeps its digits next to one.
+-- Below the sine of a quarter pi it is the greatest step of the grid whose sine is at most X.
+-- Above, the angle that is left to half pi, b steps over f, has 1 - cosine = E / 2 ^ 58; both sides
+-- are scaled by 2 f², f a power of two with 2 ^ 54 ≤ E f², so that the test keeps its digits next
+-- to one.
 use Rattle.std.specs.Prelude.{Bool, cond, ℕ, zero, suc, ◌*◌, ◌-◌, ◌/◌, ◌^◌, leb, ltb}
 use Rattle.trigonometry.specs.Taylor.{cosine_divisors}
 use Rattle.trigonometry.specs.Units.{horner}
@@ -39,4 +42,6 @@ abbrev pub half_pi_steps : ℕ
 half_pi_steps = 884279719003555
 
 unfoldable pub arcsine_units : ℕ → ℕ
-arcsine_units X = cond (ltb X (sine_step last_step)) (8 * arcsine_steps X) (cond (ltb X (2 ^ 58)) (8 * half_pi_steps - 8 * upper_steps (2 ^ 58 - X) (scale (2 ^ 58 - X)) / scale (2 ^ 58 - X)) (8 * half_pi_steps))
+arcsine_units X =
+    cond (ltb X (sine_step last_step)) (8 * arcsine_steps X)
+    (cond (ltb X (2 ^ 58)) (8 * half_pi_steps - 8 * upper_steps (2 ^ 58 - X) (scale (2 ^ 58 - X)) / scale (2 ^ 58 - X)) (8 * half_pi_steps))

@@ -1,4 +1,5 @@
--- The arctangent in steps of 2 ^ -49 (elementary.md, sections 5 and 12): in the first octant, for W at most U, the greatest step A of the grid with U sin A ≤ W cos A in whole units; then placed in the half plane.
+-- The arctangent in steps of 2 ^ -49 (docs/ELEMENTARY.md): in the first octant, for W at most U, the
+-- greatest step A of the grid with U sin A ≤ W cos A in whole units; then placed in the half plane.
 use Rattle.std.specs.Prelude.{Bool, true, false, ℕ, ◌+◌, ◌*◌, ◌-◌, ◌/◌, ◌^◌, leb}
 use Rattle.grid.specs.Search.{greatest_to}
 use Rattle.grid.specs.Grid.{last_step, sine_step, cosine_step}

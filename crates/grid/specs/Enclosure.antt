@@ -1,4 +1,6 @@
--- What document 01 asks of the arcsine: the answer lies between two angles at most 2 ^ -46 apart whose sines, by the sum of the reduced angle, enclose the argument. And of the arctangent: between two such angles y × cosine - x × sine changes its sign.
+-- What document 01 asks of the arcsine: the answer lies between two angles at most 2 ^ -46 apart
+-- whose sines, by the sum of the reduced angle, enclose the argument. And of the arctangent:
+-- between two such angles y × cosine - x × sine changes its sign.
 use Rattle.std.specs.Prelude.{◌≡◌, Bool, true, false, ℕ, ◌+◌, ◌*◌, ◌^◌, ◌≤◌, ◌<◌}
 use Rattle.std.specs.Float.Ieee.{unlike}
 use Rattle.trigonometry.specs.Angle.{half_pi, whole, Signed, sine_sum, cosine_sum}
@@ -38,19 +40,31 @@ Leq true p true q = q ≤ p
 Leq true p false q = Unit {0}
 Leq false p true q = p + q ≤ 0
 
--- at the angle ± top / bottom x sin ≤ y cos, for an x and a y with their signs: `left` says that x is negative, `minus` that y and the angle are
+-- at the angle ± top / bottom x sin ≤ y cos, for an x and a y with their signs: `left` says that x
+-- is negative, `minus` that y and the angle are
 pub record NotPast (minus left : Bool) (x y : ℕ) (at : Angle) : Type 0 where
   pub sine_proper : 0 < (sine_sum minus at.top at.bottom).bottom
   pub cosine_proper : 0 < (cosine_sum minus at.top at.bottom).bottom
-  pub holds : Leq (unlike left (sine_sum minus at.top at.bottom).minus) (x * (sine_sum minus at.top at.bottom).top * (cosine_sum minus at.top at.bottom).bottom) (unlike minus (cosine_sum minus at.top at.bottom).minus) (y * (cosine_sum minus at.top at.bottom).top * (sine_sum minus at.top at.bottom).bottom)
+  pub holds :
+      Leq
+      (unlike left (sine_sum minus at.top at.bottom).minus)
+      (x * (sine_sum minus at.top at.bottom).top * (cosine_sum minus at.top at.bottom).bottom)
+      (unlike minus (cosine_sum minus at.top at.bottom).minus)
+      (y * (cosine_sum minus at.top at.bottom).top * (sine_sum minus at.top at.bottom).bottom)
 
 -- and y cos ≤ x sin
 pub record NotShort (minus left : Bool) (x y : ℕ) (at : Angle) : Type 0 where
   pub sine_proper : 0 < (sine_sum minus at.top at.bottom).bottom
   pub cosine_proper : 0 < (cosine_sum minus at.top at.bottom).bottom
-  pub holds : Leq (unlike minus (cosine_sum minus at.top at.bottom).minus) (y * (cosine_sum minus at.top at.bottom).top * (sine_sum minus at.top at.bottom).bottom) (unlike left (sine_sum minus at.top at.bottom).minus) (x * (sine_sum minus at.top at.bottom).top * (cosine_sum minus at.top at.bottom).bottom)
+  pub holds :
+      Leq
+      (unlike minus (cosine_sum minus at.top at.bottom).minus)
+      (y * (cosine_sum minus at.top at.bottom).top * (sine_sum minus at.top at.bottom).bottom)
+      (unlike left (sine_sum minus at.top at.bottom).minus)
+      (x * (sine_sum minus at.top at.bottom).top * (cosine_sum minus at.top at.bottom).bottom)
 
--- the sign of y cos - x sin at the end nearer to 0, and at the other: it falls from 0 on and, to the other side, it rises
+-- the sign of y cos - x sin at the end nearer to 0, and at the other: it falls from 0 on and, to
+-- the other side, it rises
 abbrev pub Nearer : (minus left : Bool) (x y : ℕ) → Angle → Type 0
 Nearer false left x y at = NotPast false left x y at
 Nearer true left x y at = NotShort true left x y at

@@ -1,4 +1,5 @@
--- The grid of angles, in steps of 2 ^ -49 up to a quarter pi, and the sine and the cosine there in units of 2 ^ -58 (elementary.md, sections 0 and 12).
+-- The grid of angles, in steps of 2 ^ -49 up to a quarter pi, and the sine and the cosine there in
+-- units of 2 ^ -58 (docs/ELEMENTARY.md).
 use Rattle.std.specs.Prelude.{ℕ, ◌*◌}
 use Rattle.trigonometry.specs.Units.{one, sine_units, cosine_units}
 

@@ -1,4 +1,5 @@
--- The greatest of the numbers 0 to N that passes a test, by halves. Where the test, once it fails, fails from there on, it is the place where the test changes: `Found` says so.
+-- The greatest of the numbers 0 to N that passes a test, by halves. Where the test, once it fails,
+-- fails from there on, it is the place where the test changes: `Found` says so.
 use Rattle.std.specs.Prelude.{Bool, not, cond, ◌&&◌, ℕ, zero, suc, ◌+◌, ◌^◌, ◌≤◌, ◌<◌, T, leb}
 
 -- the test at lo + 2 ^ (f - 1), lo + 2 ^ (f - 2), ...: what passes is kept

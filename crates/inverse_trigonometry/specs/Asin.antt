@@ -1,4 +1,5 @@
--- The arcsine on 0 to 1 (01, "Arcsine"; elementary.md, sections 3, 4 and 12), and not a number outside. The answer is a multiple of 2 ^ -52; the arcsine of a number below 2 ^ -17 is the number.
+-- The arcsine on 0 to 1 (01, "Arcsine"; docs/ELEMENTARY.md), and not a number outside. The answer is
+-- a multiple of 2 ^ -52; the arcsine of a number below 2 ^ -17 is the number.
 use Rattle.std.specs.Prelude.{◌≡◌, ◌*◌, ◌^◌, ◌≤◌, Bool, false, cond, not, ◌&&◌, T, from_bits, Float}
 use Rattle.std.specs.Float.{nan, binary64}
 use Rattle.std.specs.Float.Ieee.{fits, round, lt, le}

@@ -1,4 +1,5 @@
--- The arctangent of (y, x), both finite (01, "Arctangent"; elementary.md, sections 5 and 12), and not a number otherwise: the angle of the point (x, y), a multiple of 2 ^ -49 with the sign of y.
+-- The arctangent of (y, x), both finite (01, "Arctangent"; docs/ELEMENTARY.md), and not a number
+-- otherwise: the angle of the point (x, y), a multiple of 2 ^ -49 with the sign of y.
 use Rattle.std.specs.Prelude.{◌≡◌, Bool, true, false, not, ◌&&◌, cond, ℕ, ◌*◌, ◌/◌, ◌^◌, ◌<◌, T, eqb, ltb, Float}
 use Rattle.std.specs.Float.{nan, binary64}
 use Rattle.std.specs.Float.Ieee.{fits, round, lt, size}
@@ -20,7 +21,9 @@ octant larger smaller = arctangent_steps (scaled_by larger larger) (scaled_by la
 
 -- the angle of (± x, y), in steps: on an axis, or by the octant; `left` says that x is below 0
 unfoldable pub angle_steps : Bool → ℕ → ℕ → ℕ
-angle_steps left x y = cond (eqb y 0) (cond left (2 * half_pi_steps) 0) (cond (eqb x 0) half_pi_steps (cond (ltb x y) (placed true left (octant y x)) (placed false left (octant x y))))
+angle_steps left x y =
+    cond (eqb y 0) (cond left (2 * half_pi_steps) 0)
+    (cond (eqb x 0) half_pi_steps (cond (ltb x y) (placed true left (octant y x)) (placed false left (octant x y))))
 
 unfoldable pub both_finite : Float → Float → Bool
 both_finite y x = finite y && finite x
@@ -30,7 +33,8 @@ unfolding both_finite angle_steps
 atan2 y x = cond (both_finite y x) (round binary64 (lt y zero) (angle_steps (lt x zero) (units_of x) (units_of y)) (2 ^ 49)) nan
 
 -- ---- what document 01 asks: a finite x is units_of x / 2 ^ 1074 in size, exactly
--- r is a finite f64; on an axis the one nearest to the angle, elsewhere one in the quadrant of the signs between two angles at which y × cosine - x × sine changes its sign
+-- r is a finite f64; on an axis the one nearest to the angle, elsewhere one in the quadrant of the
+-- signs between two angles at which y × cosine - x × sine changes its sign
 pub record IsAngle (y x r : Float) : Type 0 where
   pub held : T (fits binary64 r)
   pub number : T (finite r)

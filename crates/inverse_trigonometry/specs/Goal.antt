@@ -1,4 +1,5 @@
--- The laws of the three goals of the search (src/lib.rt, `Goal`): a step that is found is the one that the definition names, and the definition names one.
+-- The laws of the three goals of the search (src/lib.rt, `Goal`): a step that is found is the one
+-- that the definition names, and the definition names one.
 use Rattle.std.specs.Prelude.{◌≡◌, ℕ, ◌*◌, ◌^◌, ◌≤◌, ◌<◌}
 use lib.Dec.{lit<}
 use Rattle.grid.specs.Search.{greatest_to, Found}

@@ -1,5 +1,5 @@
-// Arcsine of f64s by whole numbers: `bisection` finds the angle, and this one puts the answer together, which is exact. What is
-// proved of the answers: specs/Asin.
+// Arcsine of f64s by whole numbers: `bisection` finds the angle, and this one puts the answer
+// together, which is exact. What is proved of the answers: specs/Asin.
 ghost use Rattle.std.specs.Prelude.{◌≡◌};
 ghost use Rattle.inverse_trigonometry.specs.Asin.{asin};
 

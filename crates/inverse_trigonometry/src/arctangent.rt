@@ -1,5 +1,5 @@
-// Arctangent of f64s by whole numbers: `bisection` finds the angle, and this one takes the
-// f64s apart and puts the answer together, which is exact. What is proved of the answers: specs/Atan2.
+// Arctangent of f64s by whole numbers: `bisection` finds the angle, and this one takes the f64s
+// apart and puts the answer together, which is exact. What is proved of the answers: specs/Atan2.
 ghost use Rattle.std.specs.Prelude.{◌≡◌, true, false, ◌*◌, ◌/◌, ◌^◌, ◌≤◌, ◌<◌};
 ghost use Rattle.std.specs.Float.{binary64};
 ghost use Rattle.std.specs.Float.Ieee.{fits};
@@ -58,8 +58,8 @@ impl Magnitude {
     }
 }
 
-// n without its last digits, `places` of them. `unbounded_shr` takes its places as a u32: for a number that is no u32 this would
-// need an answer of its own.
+// n without its last digits, `places` of them. `unbounded_shr` takes its places as a u32: for a
+// number that is no u32 this would need an answer of its own.
 fn cut(n: u64, places: u64) -> u64
     ensures { result ≡ n / 2 ^ places }
 {
@@ -96,8 +96,8 @@ fn octant(u: Magnitude, v: Magnitude) -> Steps
     normal_octant(u, v)
 }
 
-// An octant's angle in the half plane: `steep` where y is the larger, `left` where x is negative. Half pi is cut, so that one
-// step more keeps what is left of it on that side.
+// An octant's angle in the half plane: `steep` where y is the larger, `left` where x is negative.
+// Half pi is cut, so that one step more keeps what is left of it on that side.
 fn placed(steep: bool, left: bool, t: Steps) -> u64
     ensures { (result ≡ Arctangent.placed steep left t.count) × (result < 2 ^ 53) }
 {

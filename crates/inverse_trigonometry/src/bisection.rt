@@ -1,4 +1,5 @@
-// Arcsine and arctangent by whole numbers: angles in steps of 2^-49, sines and cosines in units of 2^-58.
+// Arcsine and arctangent by whole numbers: angles in steps of 2^-49, sines and cosines in units of
+// 2^-58.
 //
 // Each is the last step of a grid up to a quarter pi that passes a test. The tests are those of the
 // three types of the trait `Goal`; one search serves them all. It starts from a guess in f64
@@ -89,7 +90,8 @@ pub(crate) struct NotAbove {
 }
 
 // ---- the sine, the cosine and the scaled rest at a step
-// A step stays a plain number, and `a ≤ last_step` a clause: the search adds and halves, and each sum would be made a step anew.
+// A step stays a plain number, and `a ≤ last_step` a clause: the search adds and halves, and each
+// sum would be made a step anew.
 fn sine_at(a: u64) -> u64
     requires { a ≤ last_step }
     ensures { (result ≡ sine_step a) × (result ≤ 2 ^ 58) }
@@ -260,8 +262,8 @@ fn search<G: Goal>(goal: G) -> u64
 }
 
 // ---- the arcsine
-// The scale of a rest of e units: the least power of two f with e * f^2 at least 2^54. Such a product has at most 9 leading zeros, and
-// each doubling of f makes them two fewer.
+// The scale of a rest of e units: the least power of two f with e * f^2 at least 2^54. Such a
+// product has at most 9 leading zeros, and each doubling of f makes them two fewer.
 #[tactic(auto, using(grid::proofs::Scaling::scale_shifted))]
 fn scale_of(e: u64) -> u64
     requires { (0 < e) × (e ≤ 2 ^ 58) }
@@ -293,7 +295,8 @@ pub(crate) fn arcsine(x: u64) -> u64
 }
 
 // ---- the arctangent
-// The arctangent of w / u in steps of 2^-49, up to the last of the grid; 0 where u or w is above one.
+// The arctangent of w / u in steps of 2^-49, up to the last of the grid; 0 where u or w is above
+// one.
 #[tactic(auto, unfolding(grid::specs::Arctangent::arctangent_steps), using(crate::specs::Goal::not_above_named))]
 pub(crate) fn arctangent(u: u64, w: u64) -> u64
     ensures { (u ≤ 2 ^ 58 → w ≤ 2 ^ 58 → result ≡ arctangent_steps u w) × (2 ^ 58 < u → result ≡ 0) × (2 ^ 58 < w → result ≡ 0) × (result ≤ last_step) }

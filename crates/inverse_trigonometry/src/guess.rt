@@ -1,17 +1,19 @@
-// Guesses at the step that a search looks for, in f64 operations. They are the step or its neighbour for nearly every
-// argument, and nothing rests on them but the speed: the search accepts no step that its checks do not settle. No
-// other crate sees them: their outcome is free, and they promise nothing of it.
+// Guesses at the step that a search looks for, in f64 operations. They are the step or its
+// neighbour for nearly every argument, and nothing rests on them but the speed: the search accepts
+// no step that its checks do not settle. No other crate sees them: their outcome is free, and they
+// promise nothing of it.
 //
-// The quotients of polynomials are the best of their degrees, in the angle's absolute error: about 10^-17 for the arctangent,
-// 4 * 10^-17 for the arcsine up to a quarter pi, 9 * 10^-17 for the rest.
+// The quotients of polynomials are the best of their degrees, in the angle's absolute error: about
+// 10^-17 for the arctangent, 4 * 10^-17 for the arcsine up to a quarter pi, 9 * 10^-17 for the
+// rest.
 use crate::bisection::{AtMost, FitsIn, NotAbove};
 use trigonometry::taylor::GRID;
 
 // 2^-54.
 const HALF_GRID: f64 = GRID / 2.0;
 
-// An angle from 0 to 8 in steps of 2^-49, cut: half a step less than 8 is added, which leaves the steps in the low digits of a
-// number from 8 to 16.
+// An angle from 0 to 8 in steps of 2^-49, cut: half a step less than 8 is added, which leaves the
+// steps in the low digits of a number from 8 to 16.
 fn steps(angle: f64) -> u64 {
     let raised = angle + 7.999999999999999;
     if 8.0 <= raised && raised < 16.0 {
@@ -87,8 +89,8 @@ fn nearer(v: f64, y: f64) -> f64 {
     y + y * e * (0.5 + 0.375 * e)
 }
 
-// f times the angle whose cosine is e units below one, for e * f^2 from 2^54 to 0.293 * 2^58: twice the arcsine of the root
-// of half that rest.
+// f times the angle whose cosine is e units below one, for e * f^2 from 2^54 to 0.293 * 2^58: twice
+// the arcsine of the root of half that rest.
 pub(crate) fn rest(goal: FitsIn) -> u64 {
     let FitsIn { e, f } = goal;
     let v = (e * (f * f) / 32) as f64 * HALF_GRID;

@@ -2,15 +2,15 @@
 use mathlib.Core.Path.{◌≡◌, sym, ap, ◌∙◌, subst}
 use mathlib.Core.Bool.{Bool, not}
 use Prim.Native.Nat.{ℕ, suc, ◌+◌, ◌*◌, ◌^◌, ◌≤◌, ◌<◌}
-use native.Mathlib.Nat.{lt_of_le_of_lt, mul-le-mul, mul-le-mul_right, mul-pos, mul_assoc, mul_comm, pow-succ'}
+use native.Mathlib.Nat.{le_of_eq, lt_of_le_of_lt, mul-le-mul, mul-le-mul_right, mul-pos, mul_assoc, mul_comm, one-mul, pow-succ'}
 use native.Mathlib.Omega.{arith}
-use lib.Dec.{lit<}
+use lib.Dec.{T, lit<}
 use lib.Pow.{pow_pos, pow-add}
-use lib.Ieee.{Float, binary64, add, mul, neg, round, unlike}
+use lib.Ieee.{Float, binary64, fits, add, sub, mul, neg, round, unlike}
 use lib.Ieee.Fits.{neg-fits, round-fits}
-use lib.Ieee.Scale.{grid}
+use lib.Ieee.Scale.{finite, grid}
 use Rattle.laws.specs.Size.{Small, Times}
-use Rattle.laws.specs.Units.{sign, units_of}
+use Rattle.laws.specs.Units.{Units, sign, units_of}
 use Rattle.laws.proofs.Error.{in-range, round-value, round-at_most, under_float}
 use Rattle.laws.proofs.Size.{units_small}
 use Rattle.laws.proofs.Units.{Form, own_units, units_are, finite_of_units, mul-units, neg-units, add_rounding}
@@ -31,17 +31,28 @@ rounded_times k y o s a c C top h =
       most = subst (λ t. t ≤ 2 ^ k * units_of y) (sym (units_are (round binary64 s a c) s (grid binary64 a c) v)) (subst (λ t. grid binary64 a c ≤ t) (sym e) w);
     }
 
+product_times : {k : ℕ} {r : Float} (x y : Float) → Form r → 2 ^ k * units_of r ≤ 2 ^ 1023 * 2 ^ 1074 → Units x (sign x) (units_of x) → Units y (sign y) (units_of y)
+    → units_of x * units_of y * 2 ^ 1074 ≤ 2 ^ k * units_of r * (2 ^ 1074 * 2 ^ 1074) → Times k (mul binary64 x y) r
+product_times {k} {r} x y o top u v h =
+    subst (λ z. Times k z r) (sym (mul-units x y (sign x) (sign y) (units_of x) (units_of y) u v))
+    (rounded_times k r o (unlike (sign x) (sign y)) (units_of x * units_of y) (2 ^ 1074 * 2 ^ 1074) (mul-pos (pow_pos 1074) (pow_pos 1074)) top h)
+
+-- u is at most P, and v at most K s, in units
+scaled_up : (u v P K s L : ℕ) → u * 1 ≤ P * L → v ≤ K * s → u * v * L ≤ P * K * s * (L * L)
+scaled_up u v P K s L h k = last (mul-le-mul h k)
+  where
+    last : u * 1 * v ≤ P * L * (K * s) → u * v * L ≤ P * K * s * (L * L)
+    last m = omega (arith, mul-le-mul_right L m)
+
 pub mul_times : {p k : ℕ} {x y r : Float} → Form r → 2 ^ (p + k) * units_of r ≤ 2 ^ 1023 * 2 ^ 1074 → Small p 0 x → Times k y r → Times (p + k) (mul binary64 x y) r
 mul_times {p} {k} {x} {y} {r} o top a b =
-    subst (λ z. Times (p + k) z r) (sym (mul-units x y (sign x) (sign y) (units_of x) (units_of y) (units_small a) (own_units y b.held b.number)))
-    (rounded_times (p + k) r o (unlike (sign x) (sign y)) (units_of x * units_of y) (2 ^ 1074 * 2 ^ 1074) (mul-pos (pow_pos 1074) (pow_pos 1074)) top
-    (rw (pow-add 2 p k) (go (units_of x) (units_of y) (2 ^ p) (2 ^ k) (units_of r) (2 ^ 1074) a.most b.most)))
-  where
-    go : (u v P K s L : ℕ) → u * 1 ≤ P * L → v ≤ K * s → u * v * L ≤ P * K * s * (L * L)
-    go u v P K s L h k = last (mul-le-mul h k)
-      where
-        last : u * 1 * v ≤ P * L * (K * s) → u * v * L ≤ P * K * s * (L * L)
-        last m = omega (arith, mul-le-mul_right L m)
+    product_times x y o top (units_small a) (own_units y b.held b.number) (rw (pow-add 2 p k) (scaled_up (units_of x) (units_of y) (2 ^ p) (2 ^ k) (units_of r) (2 ^ 1074) a.most b.most))
+
+-- the same with the factors the other way round
+pub times_mul : {p k : ℕ} {x y r : Float} → Form r → 2 ^ (p + k) * units_of r ≤ 2 ^ 1023 * 2 ^ 1074 → Times k x r → Small p 0 y → Times (p + k) (mul binary64 x y) r
+times_mul {p} {k} {x} {y} {r} o top a b =
+    product_times x y o top (own_units x a.held a.number) (units_small b)
+    (subst (λ n. n * 2 ^ 1074 ≤ 2 ^ (p + k) * units_of r * (2 ^ 1074 * 2 ^ 1074)) (mul_comm (units_of y) (units_of x)) (rw (pow-add 2 p k) (scaled_up (units_of y) (units_of x) (2 ^ p) (2 ^ k) (units_of r) (2 ^ 1074) b.most a.most)))
 
 pub add_times : {k : ℕ} {x y r : Float} → Form r → 2 ^ suc k * units_of r ≤ 2 ^ 1023 * 2 ^ 1074 → Times k x r → Times k y r → Times (suc k) (add binary64 x y) r
 add_times {k} {x} {y} {r} o top a b =
@@ -56,3 +67,10 @@ pub neg_times : {k : ℕ} {x r : Float} → Times k x r → Times k (neg x) r
 neg_times {k} {x} {r} a =
     let v = neg-units x (sign x) (units_of x) (own_units x a.held a.number) in
     record { held = neg-fits binary64 x a.held; number = (finite_of_units (neg x) (not (sign x)) (units_of x) v).0; most = subst (λ t. t ≤ 2 ^ k * units_of r) (sym (units_are (neg x) (not (sign x)) (units_of x) v)) a.most }
+
+pub sub_times : {k : ℕ} {x y r : Float} → Form r → 2 ^ suc k * units_of r ≤ 2 ^ 1023 * 2 ^ 1074 → Times k x r → Times k y r → Times (suc k) (sub binary64 x y) r
+unfolding sub
+sub_times o top a b = add_times o top a (neg_times b)
+
+pub own_times : {x : Float} → T (fits binary64 x) → T (finite x) → Times 0 x x
+own_times {x} h n = record { held = h; number = n; most = le_of_eq (sym (one-mul (units_of x))) }

@@ -1,4 +1,5 @@
--- The operations on f64s as signs: each is one of IEEE 754, rounded once to the nearest, ties to even.
+-- The operations on f64s as signs: each is one of IEEE 754, rounded once to the nearest, ties to
+-- even.
 use Rattle.std.specs.Prelude.{Float}
 use Rattle.std.specs.Float.{binary64}
 use Rattle.std.specs.Float.Ieee.{add, sub, mul, div}

@@ -1,4 +1,5 @@
--- Bounds on the size of a float at powers of two. Such a bound is itself a float, so that a rounding keeps it with no error term.
+-- Bounds on the size of a float at powers of two. Such a bound is itself a float, so that a
+-- rounding keeps it with no error term.
 use Rattle.std.specs.Prelude.{ℕ, ◌*◌, ◌^◌, ◌≤◌, T, Float}
 use Rattle.std.specs.Float.{binary64}
 use Rattle.std.specs.Float.Ieee.{fits}

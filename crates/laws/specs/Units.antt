@@ -1,4 +1,5 @@
--- A finite f64 as a sign and a whole number of units. The unit is the smallest positive f64, 2 ^ -1074, and every finite f64 is a multiple of it.
+-- A finite f64 as a sign and a whole number of units. The unit is the smallest positive f64, 2 ^
+-- -1074, and every finite f64 is a multiple of it.
 use Rattle.std.specs.Prelude.{Bool, false, ℕ, ◌*◌, ◌^◌, ◌/◌, Float}
 use Rattle.std.specs.Float.{nan, inf, fin}
 use Rattle.std.specs.Float.Ieee.{up, down}

@@ -1,2 +1,3 @@
-// Laws on floats, fractions and lists, for the crates above: definitions in specs/, laws in proofs/. There is no code.
+// Laws on floats, fractions and lists, for the crates above: definitions in specs/, laws in
+// proofs/. There is no code.
 #![tactic(auto)]

@@ -1,4 +1,7 @@
--- The fields of a contact's line, after document 01, 'Encounter sheet and its program': 'Fields: id, approach, CPA (range if OPENING or STATIONARY), whole seconds to CPA rounded down (`-` if none), risk (others: OPENING, PASSING, DEVELOPING)', after DANGEROUS, and 'Three decimals, nearest, ties to even.'
+-- The fields of a contact's line, after document 01, 'Encounter sheet and its program': 'Fields:
+-- id, approach, CPA (range if OPENING or STATIONARY), whole seconds to CPA rounded down (`-` if
+-- none), risk (others: OPENING, PASSING, DEVELOPING)', after DANGEROUS, and 'Three decimals,
+-- nearest, ties to even.'
 use Rattle.std.specs.Prelude.{List, ℕ}
 use Rattle.text.specs.Text.{bytes}
 use Rattle.text.specs.Decimal.{decimal_of}

@@ -1,4 +1,5 @@
--- The lines that the encounter sheet's program prints, field by field, after document 01, 'Encounter sheet and its program', from 'It prints' on.
+-- The lines that the encounter sheet's program prints, field by field, after document 01,
+-- 'Encounter sheet and its program', from 'It prints' on.
 use Rattle.std.specs.Prelude.{List, [], ◌∷◌, ℕ, Err, Ok}
 use Rattle.std.specs.declared.result.Result.{Result}
 use Rattle.text.specs.Text.{bytes, appended}
@@ -16,7 +17,8 @@ use Rattle.colregs.specs.Ruling.{rule_number}
 use Rattle.ruled_search.specs.declared.RuledManoeuvre.{RuledManoeuvre}
 pub use Rattle.lines.specs.Turn.{side_field, passing_field, limiting_field}
 
--- 'id, approach, CPA (range if OPENING or STATIONARY), whole seconds to CPA rounded down (`-` if none), risk, encounter, responsibility, rule'
+-- 'id, approach, CPA (range if OPENING or STATIONARY), whole seconds to CPA rounded down (`-` if
+-- none), risk, encounter, responsibility, rule'
 unfoldable pub contact_line : ℕ → Track Cpa → CollisionRisk → Ruling → List ℕ
 contact_line id approach risk ruling =
     line
@@ -31,7 +33,8 @@ contact_line id approach risk ruling =
     ∷ decimal_of (rule_number ruling.rule)
     ∷ [])
 
--- 'side, magnitude, new course, passing distance, limiting id'; the id is that of the limiting contact
+-- 'side, magnitude, new course, passing distance, limiting id'; the id is that of the limiting
+-- contact
 unfoldable pub alter_line : RuledManoeuvre → ℕ → List ℕ
 alter_line m id =
     line

@@ -1,4 +1,6 @@
--- The fields of a contact's line that come from its ruling, after document 01, 'Encounter sheet and its program': 'encounter (others: BEING-OVERTAKEN, HEAD-ON, CROSSING-S, CROSSING-P), responsibility (STANDON, BOTH, UNDETERMINED)', after OVERTAKING and GIVEWAY.
+-- The fields of a contact's line that come from its ruling, after document 01, 'Encounter sheet and
+-- its program': 'encounter (others: BEING-OVERTAKEN, HEAD-ON, CROSSING-S, CROSSING-P),
+-- responsibility (STANDON, BOTH, UNDETERMINED)', after OVERTAKING and GIVEWAY.
 use Rattle.std.specs.Prelude.{List, ℕ}
 use Rattle.text.specs.Text.{bytes}
 use Rattle.motion.specs.declared.side.Side.{Side}

@@ -33,7 +33,8 @@ pub fn contact_line(t: &mut Text, id: u32, approach: Approach, risk: CollisionRi
     t.byte(b'\n');
 }
 
-// The line on the ruled search's answer. The id is that of the limiting contact, and is not read where there is none.
+// The line on the ruled search's answer. The id is that of the limiting contact, and is not read
+// where there is none.
 pub fn alter_line(t: &mut Text, m: RuledManoeuvre, id: u32)
     ensures { t.new ≡ appended t.old (Spec.alter_line m id) }
 {

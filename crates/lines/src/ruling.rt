@@ -1,5 +1,5 @@
-// The fields of a contact's line that come from its ruling, each appended with the space that follows it.
-// Words are byte strings, put by a `match`, and no `Display`: `Text::put` says why.
+// The fields of a contact's line that come from its ruling, each appended with the space that
+// follows it. Words are byte strings, put by a `match`, and no `Display`: `Text::put` says why.
 #![tactic(auto, unfolding(text::specs::Text::bytes))]
 
 ghost use Rattle.std.specs.Prelude.{◌≡◌};

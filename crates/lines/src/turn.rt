@@ -1,5 +1,5 @@
-// The fields of the line on a turn that say its side, the passing distance and the contact whose it is.
-// Words are byte strings, put by a `match`, and no `Display`: `Text::put` says why.
+// The fields of the line on a turn that say its side, the passing distance and the contact whose it
+// is. Words are byte strings, put by a `match`, and no `Display`: `Text::put` says why.
 #![tactic(auto, using(text::proofs::Appending::appended_twice), unfolding(text::specs::Text::bytes))]
 
 ghost use Rattle.std.specs.Prelude.{◌≡◌, [], ◌∷◌};

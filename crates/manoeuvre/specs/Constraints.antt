@@ -1,9 +1,9 @@
--- The constraints of a manoeuvre (avoidance.rs, `PermittedSides`, `ManoeuvreConstraints`; 01, the table's row 4).
-use Rattle.std.specs.Prelude.{Bool, true, false, List, [], ◌∷◌, ◌++◌, ℕ, Float, None, Some, Err, Ok}
+-- The constraints of a manoeuvre (avoidance.rs, `PermittedSides`, `ManoeuvreConstraints`; 01, the
+-- table's row 4).
+use Rattle.std.specs.Prelude.{Bool, true, false, List, [], ◌∷◌, ◌++◌, Float, None, Some, Err, Ok}
 use Rattle.std.specs.Float.{binary64}
 use Rattle.std.specs.Float.Ieee.{of_bits}
 use Rattle.math.specs.Sign.{abs}
-use Rattle.elementary.specs.Refusal.{number_of}
 use Rattle.elementary.specs.Range.{in_range}
 use Rattle.elementary.specs.declared.error.Refusal.TheVariants as Why
 use Rattle.motion.specs.declared.side.BySide.{BySide}
@@ -57,15 +57,12 @@ constraints_if_accepted (Err why) c = Err why
 
 unfoldable pub constraints_answer : PermittedSides → Angle → Angle → Result ManoeuvreConstraints Refusal
 constraints_answer sides least most =
-    constraints_if_accepted (verdict (alteration_checks least most) (Ok tt)) (record { sides = sides; least_alteration = least; most_alteration = most; rate_of_turn = None })
+    constraints_if_accepted (verdict (alteration_checks least most) (Ok tt))
+    (record { sides = sides; least_alteration = least; most_alteration = most; rate_of_turn = None })
 
 -- the sign of the rate is ignored
 unfoldable pub with_rate_of_turn : ManoeuvreConstraints → RateOfTurn → Result ManoeuvreConstraints Refusal
 with_rate_of_turn c rate =
     let size = Some (record { 0 = abs rate.0 }) in
-    constraints_if_accepted (verdict (rate_checks size) (Ok tt)) (record { sides = c.sides; least_alteration = c.least_alteration; most_alteration = c.most_alteration; rate_of_turn = size })
-
--- document 01's number of an answer, 0 where it is answered
-abbrev pub constraints_number : Result ManoeuvreConstraints Refusal → ℕ
-constraints_number (Ok c) = 0
-constraints_number (Err why) = number_of why
+    constraints_if_accepted (verdict (rate_checks size) (Ok tt))
+    (record { sides = c.sides; least_alteration = c.least_alteration; most_alteration = c.most_alteration; rate_of_turn = size })

@@ -36,7 +36,14 @@ turn_time magnitude None = None
 turn_time magnitude (Some rate) = turned magnitude rate
 
 unfoldable pub manoeuvre : Direction → Angle → Option Duration → Distance → Option ℕ → AvoidanceManoeuvre
-manoeuvre course alteration time passing limiting = record { course = course; alteration = alteration; turn_time = time; least_passing = passing; limiting = limiting }
+manoeuvre course alteration time passing limiting =
+    record {
+      course = course;
+      alteration = alteration;
+      turn_time = time;
+      least_passing = passing;
+      limiting = limiting;
+    }
 
 -- port for a negative alteration, starboard for any other
 unfoldable pub side_of : Angle → Side

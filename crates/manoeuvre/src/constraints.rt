@@ -1,5 +1,5 @@
-// What a manoeuvre may be: permitted sides, the least and the most alteration, the rate of turn, and their checks. The port of avoidance.rs's
-// `PermittedSides` and `ManoeuvreConstraints`.
+// What a manoeuvre may be: permitted sides, the least and the most alteration, the rate of turn,
+// and their checks. The port of avoidance.rs's `PermittedSides` and `ManoeuvreConstraints`.
 ghost use Rattle.std.specs.Prelude.{◌≡◌};
 ghost use Rattle.motion.specs.Check as Check;
 ghost use Rattle.manoeuvre.specs.Constraints as Spec;
@@ -9,7 +9,8 @@ use elementary::error::Refusal;
 use motion::side::BySide;
 use motion::units::{Angle, RateOfTurn};
 
-// The most that an alteration may be, in degrees: document 01's limit, which has no other figure's name.
+// The most that an alteration may be, in degrees: document 01's limit, which has no other figure's
+// name.
 const MAX_ALTERATION: f64 = 180.0;
 
 // The smallest normal f64 and the largest one: a rate of turn is at least the first in size.
@@ -59,8 +60,9 @@ impl From<PermittedSides> for BySide<bool> {
     }
 }
 
-// The least alteration from 0 to 180 degrees, then the most from there to 180 (number 4).
-// Two arguments and no `TrialList`, whose figures are bare f64s: all callers hold two `Angle`s, and would make a list for the check alone.
+// The least alteration from 0 to 180 degrees, then the most from there to 180 (number 4). Two
+// arguments and no `TrialList`, whose figures are bare f64s: all callers hold two `Angle`s, and
+// would make a list for the check alone.
 #[tactic(auto, unfolding(motion::specs::Check::verdict))]
 fn check_alterations(least: Angle, most: Angle) -> Result<(), Refusal>
     ensures { result ≡ Check.checked (Spec.alteration_checks least most) }

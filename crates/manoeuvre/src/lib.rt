@@ -1,5 +1,5 @@
-// What a manoeuvre is: the course to steer, the alteration, its time, the passing distance and the contact that limits it. The port of
-// avoidance.rs's `AvoidanceManoeuvre`.
+// What a manoeuvre is: the course to steer, the alteration, its time, the passing distance and the
+// contact that limits it. The port of avoidance.rs's `AvoidanceManoeuvre`.
 #![tactic(auto)]
 
 pub mod constraints;
@@ -12,8 +12,8 @@ use math::duration::Duration;
 use motion::side::Side;
 use motion::units::{Angle, Direction, Distance, RateOfTurn};
 
-// The alteration is positive to starboard. Apart from `ruled_search::RuledManoeuvre`: this is the Rust's type, whose one signed alteration loses the
-// side of a turn of 0.
+// The alteration is positive to starboard. Apart from `ruled_search::RuledManoeuvre`: this is the
+// Rust's type, whose one signed alteration loses the side of a turn of 0.
 #[derive(Clone, Copy)]
 pub struct AvoidanceManoeuvre {
     course: Direction,
@@ -23,7 +23,8 @@ pub struct AvoidanceManoeuvre {
     limiting: Option<usize>,
 }
 
-// The time that a turn of a magnitude in degrees takes at a rate; none without a rate, or where it is too long.
+// The time that a turn of a magnitude in degrees takes at a rate; none without a rate, or where it
+// is too long.
 #[tactic(auto, unfolding(crate::specs::Manoeuvre::turned))]
 pub fn turn_time(magnitude: f64, rate: Option<RateOfTurn>) -> Option<Duration>
     ensures { result ≡ Spec.turn_time magnitude rate }
@@ -93,7 +94,8 @@ impl AvoidanceManoeuvre {
         self.least_passing
     }
 
-    // The contact that passes at it, by its place in the list; in the Rust `limiting_target`, by its id.
+    // The contact that passes at it, by its place in the list; in the Rust `limiting_target`, by
+    // its id.
     pub fn limiting(self) -> Option<usize>
         ensures { result ≡ self.limiting }
     {

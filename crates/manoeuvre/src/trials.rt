@@ -1,5 +1,5 @@
-// The trial list of a side (document 01, 'Trial list'): least plus k, for k from 0 to the whole part of most minus least, each sum and
-// difference rounded once, cut at most. In degrees.
+// The trial list of a side (document 01, 'Trial list'): least plus k, for k from 0 to the whole
+// part of most minus least, each sum and difference rounded once, cut at most. In degrees.
 ghost use Rattle.std.specs.Prelude.{◌≡◌, length};
 ghost use Rattle.manoeuvre.specs.Trials as Spec;
 
@@ -27,7 +27,8 @@ impl TrialList {
         self.last() + 1
     }
 
-    // Trial k. Not `sum.min(self.most)`: it answers the most where the sum is no number, for which the definition has the sum.
+    // Trial k. Not `sum.min(self.most)`: it answers the most where the sum is no number, for which
+    // the definition has the sum.
     #[tactic(auto, unfolding(crate::specs::Trials::trial))]
     pub fn trial(self, k: usize) -> f64
         ensures { result ≡ Spec.trial self.least self.most k }

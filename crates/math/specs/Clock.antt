@@ -1,4 +1,6 @@
--- Times, after document 01's paragraph on leaf helpers: 'hours to time: × 3600, nearest nanosecond, ties to even. Seconds to time rounds likewise. Time to hours: the seconds plus nanoseconds / 10^9, each as f64, then / 3600.'
+-- Times, after document 01's paragraph on leaf helpers: 'hours to time: × 3600, nearest nanosecond,
+-- ties to even. Seconds to time rounds likewise. Time to hours: the seconds plus nanoseconds /
+-- 10^9, each as f64, then / 3600.'
 use Rattle.std.specs.Prelude.{ℕ, ◌*◌, ◌/◌, ◌%◌, ◌^◌, Bool, cond, not, ◌&&◌, pos, ◌==◌, from_bits, nat_lt, Float, Err, Ok}
 use Rattle.std.specs.Float.{binary64}
 use Rattle.std.specs.Float.Ieee.{add, mul, div, lt, le, of_int}
@@ -13,7 +15,8 @@ use Rattle.math.specs.declared.duration.TimeError.TheVariants.{NoTime, TooLong}
 unfoldable pub clock : ℕ → Duration
 clock n = record { secs = n / 1000000000; nanos = n % 1000000000 }
 
--- x is the fraction num x / den x of a second: in nanoseconds the nearest whole number, ties to even, exactly
+-- x is the fraction num x / den x of a second: in nanoseconds the nearest whole number, ties to
+-- even, exactly
 unfoldable pub nanos_in : Float → ℕ
 nanos_in x = closest (num x * 1000000000) (den x)
 
@@ -45,7 +48,8 @@ hours_of d = div binary64 (add binary64 (of_int binary64 (pos d.secs)) (div bina
 unfoldable pub is_before : Duration → Duration → Bool
 is_before a b = cond (a.secs == b.secs) (nat_lt a.nanos b.nanos) (nat_lt a.secs b.secs)
 
--- a time handed in (document 01, row 6 of the table of refusals): not above 2 ^ 53 s, and with fewer than 10 ^ 9 nanoseconds
+-- a time handed in (document 01, row 6 of the table of refusals): not above 2 ^ 53 s, and with
+-- fewer than 10 ^ 9 nanoseconds
 abbrev pub longest : Duration
 longest = record { secs = 2 ^ 53; nanos = 0 }
 

@@ -1,4 +1,5 @@
--- Degrees and radians, as math.rs: `to_radians` divides by 180 / π, and `to_degrees` multiplies by it. The division of the two constants is rounded once, as the Rust's is.
+-- Degrees and radians, as math.rs: `to_radians` divides by 180 / π, and `to_degrees` multiplies by
+-- it. The division of the two constants is rounded once, as the Rust's is.
 use Rattle.std.specs.Prelude.{from_bits, Float}
 use Rattle.std.specs.Float.{binary64}
 use Rattle.std.specs.Float.Ieee.{div, mul}

@@ -1,4 +1,6 @@
--- The folds of document 01, the leaf helpers: the whole fold is 'the remainder by 360, plus 360 if negative, with 360 read as 0', the half fold 'takes that to above -180 up to 180', `reciprocal` 'adds 180 and folds'.
+-- The folds of document 01, the leaf helpers: the whole fold is 'the remainder by 360, plus 360 if
+-- negative, with 360 read as 0', the half fold 'takes that to above -180 up to 180', `reciprocal`
+-- 'adds 180 and folds'.
 use Rattle.std.specs.Prelude.{cond, T, Float}
 use Rattle.std.specs.Float.{binary64}
 use Rattle.std.specs.Float.Ieee.{add, sub, rem, lt, le, eq, of_bits}

@@ -1,4 +1,5 @@
--- The helpers of math.rs, and below them whole numbers, the remainder by 360, the folds of directions and times.
+-- The helpers of math.rs, and below them whole numbers, the remainder by 360, the folds of
+-- directions and times.
 pub mod Cast
 pub mod Clock
 pub mod Convert

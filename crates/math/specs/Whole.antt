@@ -1,5 +1,7 @@
--- Rounding to whole numbers: `trunc` towards zero, `round` with halves away from zero, `ceil` upwards, each as Rust's f64 has it.
--- A finite float `fin s m e` is a / c in size, with a = m * up e and c = down e, and keeps its sign. The whole numbers here are floats themselves, so `round` rounds nothing.
+-- Rounding to whole numbers: `trunc` towards zero, `round` with halves away from zero, `ceil`
+-- upwards, each as Rust's f64 has it. A finite float `fin s m e` is a / c in size, with a = m * up
+-- e and c = down e, and keeps its sign. The whole numbers here are floats themselves, so `round`
+-- rounds nothing.
 use Rattle.std.specs.Prelude.{ℕ, ◌+◌, ◌-◌, ◌*◌, ◌/◌, Bool, cond, Float}
 use Rattle.std.specs.Float.{nan, inf, fin, binary64}
 use Rattle.std.specs.Float.Ieee.{up, down, round, eq}

@@ -1,5 +1,5 @@
-// Directions and differences of directions, in degrees (document 01, the leaf helpers). Each function takes any f64; what is
-// not finite gives NaN.
+// Directions and differences of directions, in degrees (document 01, the leaf helpers). Each
+// function takes any f64; what is not finite gives NaN.
 ghost use Rattle.std.specs.Prelude.{◌≡◌};
 ghost use Rattle.math.specs.Fold as Fold;
 
@@ -42,8 +42,9 @@ pub fn reciprocal(degrees: f64) -> f64
     wrap360(degrees + HALF_TURN)
 }
 
-// A direction from any number of degrees, for relative bearings too: the whole fold. Both names are the Rust's, which has `wrap360` of numbers and
-// `Direction::from_degrees_wrapped` of what becomes a direction, and each caller has the Rust's.
+// A direction from any number of degrees, for relative bearings too: the whole fold. Both names are
+// the Rust's, which has `wrap360` of numbers and `Direction::from_degrees_wrapped` of what becomes
+// a direction, and each caller has the Rust's.
 pub fn from_degrees_wrapped(degrees: f64) -> f64
     ensures { result ≡ Fold.whole_fold degrees }
 {

@@ -1,9 +1,10 @@
-// Times: whole seconds with nanoseconds, and their conversions from and to f64 (document 01, the leaf helpers).
+// Times: whole seconds with nanoseconds, and their conversions from and to f64 (document 01, the
+// leaf helpers).
 ghost use Rattle.std.specs.Prelude.{◌≡◌};
 ghost use Rattle.math.specs.Clock.{from_seconds, from_hours, hours_of, is_before, is_accepted};
 
-// A length of time. Fewer than 10^9 nanoseconds, in what the functions here answer; what is handed in may have more, as the library's `Duration`
-// may not, and `is_accepted` tells.
+// A length of time. Fewer than 10^9 nanoseconds, in what the functions here answer; what is handed
+// in may have more, as the library's `Duration` may not, and `is_accepted` tells.
 #[derive(Clone, Copy, PartialEq, Eq, PartialOrd, Ord)]
 pub struct Duration {
     pub secs: u64,
@@ -68,15 +69,17 @@ impl Duration {
         (secs + nanos / 1e9) / 3600.0
     }
 
-    // Whether this time is shorter than the other: by seconds first, then by nanoseconds. It is `<`, under the name that document 01
-    // and the C export have; the module's own code says `<`, but for the replay of the Rust's answers.
+    // Whether this time is shorter than the other: by seconds first, then by nanoseconds. It is
+    // `<`, under the name that document 01 and the C export have; the module's own code says `<`,
+    // but for the replay of the Rust's answers.
     pub fn is_before(self, other: Duration) -> bool
         ensures { result ≡ is_before self other }
     {
         self < other
     }
 
-    // Whether document 01 accepts this time where one is handed in: at most 2^53 s, with fewer than 10^9 nanoseconds.
+    // Whether document 01 accepts this time where one is handed in: at most 2^53 s, with fewer than
+    // 10^9 nanoseconds.
     #[tactic(auto, unfolding(crate::specs::Clock::is_accepted))]
     pub fn is_accepted(self) -> bool
         ensures { result ≡ is_accepted self }

@@ -1,6 +1,6 @@
-// The helpers of math.rs that the encounter module leans on: conversions between degrees and radians, signs, tests,
-// and casts. Each takes any f64, NaN and infinities included. The six elementary functions stand in crates
-// of their own.
+// The helpers of math.rs that the encounter module leans on: conversions between degrees and
+// radians, signs, tests, and casts. Each takes any f64, NaN and infinities included. The six
+// elementary functions stand in crates of their own.
 #![tactic(auto)]
 
 pub mod angle;
@@ -81,7 +81,8 @@ pub fn is_effectively_zero(value: f64, scale: f64) -> bool
     abs(value) <= abs(scale) * RELATIVE_TOLERANCE
 }
 
-// The larger of two values; `a` where one of them is no number, for which `f64::max` answers the other.
+// The larger of two values; `a` where one of them is no number, for which `f64::max` answers the
+// other.
 #[tactic(auto, unfolding(crate::specs::Test::larger))]
 pub fn larger(a: f64, b: f64) -> f64
     ensures { result ≡ Test.larger a b }
@@ -108,8 +109,8 @@ pub fn count_to_f64(count: usize) -> f64
     std::num::nearest_usize_to_f64(count)
 }
 
-// 2^k, and 0 where that is no u64. `unbounded_shl` takes its k as a u32: for a k that is no u32 this would need an answer
-// of its own.
+// 2^k, and 0 where that is no u64. `unbounded_shl` takes its k as a u32: for a k that is no u32
+// this would need an answer of its own.
 pub fn power_of_two(k: u64) -> u64
     ensures power { k < 64 → result ≡ 2 ^ k }
     ensures none { 64 ≤ k → result ≡ 0 }
@@ -129,7 +130,8 @@ pub struct Parts {
 impl Parts {
     // The parts of the finite float that has a pattern whose sign is clear.
     pub fn of_pattern(pattern: u64) -> Parts
-        ensures { (x : Float) → fits binary64 x ≡ true → finite x ≡ true → sign x ≡ false → pattern ≡ Ieee.to_bits binary64 x → units_of x ≡ result.digits * 2 ^ result.place }
+        ensures { (x : Float) → fits binary64 x ≡ true → finite x ≡ true → sign x ≡ false
+            → pattern ≡ Ieee.to_bits binary64 x → units_of x ≡ result.digits * 2 ^ result.place }
     {
         if pattern < LEADING {
             return Parts {

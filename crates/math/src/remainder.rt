@@ -1,6 +1,8 @@
-// The remainder of an f64 by a full turn, 360, without a division: whole numbers of full turns are taken away, 2^1015 of them first where there
-// are so many, then half as many, and so on to one. Every difference is exact (proofs/FullTurns.antt). Not by `%`, which is what the contract says:
-// it compiles to a call of the C library's `fmod`, which nothing proves (docs/DECISIONS.md, 'Folds').
+// The remainder of an f64 by a full turn, 360, without a division: whole numbers of full turns are
+// taken away, 2^1015 of them first where there are so many, then half as many, and so on to one.
+// Every difference is exact (proofs/FullTurns.antt). Not by `%`, which is what the contract says:
+// it compiles to a call of the C library's `fmod`, which nothing proves (docs/DECISIONS.md,
+// 'Folds').
 ghost use Rattle.std.specs.Prelude.{◌≡◌, false, cond, ◌≤◌};
 ghost use Rattle.std.specs.Float.{binary64};
 ghost use Rattle.std.specs.Float.Ieee.{sub, rem, lt, le};
@@ -22,8 +24,9 @@ fn less(rest: f64, turn: f64) -> f64
     if turn <= rest { rest - turn } else { rest }
 }
 
-// The remainder by a full turn, of a number below two times `turn`, which is 2^(left - 1) full turns: they are taken away where there are so
-// many, then half as many, and so on to one. No difference is rounded.
+// The remainder by a full turn, of a number below two times `turn`, which is 2^(left - 1) full
+// turns: they are taken away where there are so many, then half as many, and so on to one. No
+// difference is rounded.
 fn reduced(a: f64, turn: f64, left: u64) -> f64
     requires { Left (units_of a) a turn left × (left ≤ 1016) }
     ensures { Rest (units_of a) result }

@@ -1,4 +1,5 @@
-// Rounding to whole numbers, from math.rs: the library's methods. Each takes any f64, NaN and infinities included.
+// Rounding to whole numbers, from math.rs: the library's methods. Each takes any f64, NaN and
+// infinities included.
 ghost use Rattle.std.specs.Prelude.{◌≡◌};
 ghost use Rattle.math.specs.Whole as Whole;
 ghost use Rattle.math.specs.Rounded as Cast;

@@ -1,12 +1,15 @@
-// Replays the Rust's answers on the module's functions. Each record of standard input is 37 little-endian words: the function's number, which
-// word of its answer, how many words its arguments have, and these as the C exports take them, two contacts at most. For each the program writes
-// that word, as sixteen hexadecimal digits on a line; the file `stdout` has what the Rust answers. How the records are made is said in docs/COMPARISON.md.
+// Replays the Rust's answers on the module's functions. Each record of standard input is 37
+// little-endian words: the function's number, which word of its answer, how many words its
+// arguments have, and these as the C exports take them, two contacts at most. For each the program
+// writes that word, as sixteen hexadecimal digits on a line; the file `stdout` has what the Rust
+// answers. How the records are made is said in docs/COMPARISON.md.
 #![tactic(auto)]
 
 use replay::{Replayed, low_half, word};
 use std::io;
 
-// Nothing is promised of what is answered but that it is answered: the Rust's own answers say what it is.
+// Nothing is promised of what is answered but that it is answered: the Rust's own answers say what
+// it is.
 struct Module;
 
 impl Replayed for Module {

@@ -1,4 +1,6 @@
--- The checks of arguments (01, 'The answers by number': 'arguments are checked in the order … own, contact (first plot, then second), target, …, inside one in field order; … the first bad one decides; with none bad they are accepted').
+-- The checks of arguments (01, 'The answers by number': 'arguments are checked in the order … own,
+-- contact (first plot, then second), target, …, inside one in field order; … the first bad one
+-- decides; with none bad they are accepted').
 use Rattle.std.specs.Prelude.{Bool, ◌&&◌, cond, List, [], ◌∷◌, ◌++◌, Float, Ok, Err}
 use Rattle.std.specs.Float.{binary64}
 use Rattle.std.specs.Float.Ieee.{lt, le, of_bits}

@@ -1,4 +1,5 @@
--- Quantities with their units, vessels and contacts, the capacity for contacts, and the checks of arguments.
+-- Quantities with their units, vessels and contacts, the capacity for contacts, and the checks of
+-- arguments.
 pub mod Capacity
 pub mod Check
 pub mod Held

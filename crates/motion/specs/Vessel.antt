@@ -1,4 +1,6 @@
--- Velocities and offsets (relative_motion.rs, `Vessel::velocity`, `Vessel::from_velocity`, `Contact::offset`, `relative_velocity`; 01, the leaf helpers: 'a direction's `radians` is `to_radians` of its degrees, its `components` are speed × cosine and speed × sine').
+-- Velocities and offsets (relative_motion.rs, `Vessel::velocity`, `Vessel::from_velocity`,
+-- `Contact::offset`, `relative_velocity`; 01, the leaf helpers: 'a direction's `radians` is
+-- `to_radians` of its degrees, its `components` are speed × cosine and speed × sine').
 use Rattle.std.specs.Prelude.{Float}
 use Rattle.std.specs.Float.Ieee.{neg}
 use Rattle.laws.specs.Ops.{◌⊕◌, ◌⊖◌, ◌⊗◌, ◌⊘◌}

@@ -62,9 +62,10 @@ pub fn check_distance(d: Distance) -> Result<(), Refusal>
     ensure(is_distance(d), Refusal::Distance)
 }
 
-// Own craft, the contact and the target. They stay three arguments of each function on an encounter: by the project's rule functions keep kinavis's
-// names and arguments, so that the two can be held side by side; a struct of the three would be made in every public function and taken apart
-// in every definition.
+// Own craft, the contact and the target. They stay three arguments of each function on an
+// encounter: by the project's rule functions keep kinavis's names and arguments, so that the two
+// can be held side by side; a struct of the three would be made in every public function and taken
+// apart in every definition.
 pub fn check_encounter(own: Vessel, contact: Contact, target: Vessel) -> Result<(), Refusal>
     ensures { result ≡ Spec.checked (Spec.encounter_checks own contact target) }
 {

@@ -1,6 +1,8 @@
--- The closest point of approach (relative_motion.rs, `closest_point_of_approach`, `relative_bearing_of`), operation by operation, in two stages: the offset and the relative velocity, and what follows from them.
-use Rattle.std.specs.Prelude.{cond, ◌++◌, ℕ, ◌-◌, ◌^◌, Float, Err, Ok}
-use Rattle.std.specs.Float.{nan, binary64}
+-- The closest point of approach (relative_motion.rs, `closest_point_of_approach`,
+-- `relative_bearing_of`), operation by operation, in two stages: the offset and the relative
+-- velocity, and what follows from them.
+use Rattle.std.specs.Prelude.{cond, ◌++◌, ◌-◌, ◌^◌, Float, Err, Ok}
+use Rattle.std.specs.Float.{binary64}
 use Rattle.std.specs.Float.Ieee.{neg, lt, le, of_bits}
 use Rattle.laws.specs.Ops.{◌⊕◌, ◌⊖◌, ◌⊗◌, ◌⊘◌}
 use Rattle.math.specs.Fold.{whole_fold}
@@ -12,7 +14,6 @@ use Rattle.motion.specs.declared.units.RelativeBearing.{RelativeBearing}
 use Rattle.math.specs.declared.duration.TimeError.{TimeError}
 use Rattle.math.specs.declared.duration.TimeError.TheVariants.{NoTime, TooLong}
 use Rattle.roots.specs.Hypot.{hypot}
-use Rattle.elementary.specs.Refusal.{number_of}
 use Rattle.motion.specs.declared.units.Distance.{Distance}
 use Rattle.motion.specs.declared.vessel.Vessel.{Vessel}
 use Rattle.motion.specs.declared.vessel.Contact.{Contact}
@@ -48,7 +49,9 @@ time_of position relative = let speed = relative_speed relative in neg (closing_
 
 -- the point of the relative track that is nearest to own craft
 unfoldable pub closest : Components → Components → Components
-closest position relative = let time = time_of position relative in record { north = position.north ⊕ relative.north ⊗ time; east = position.east ⊕ relative.east ⊗ time }
+closest position relative =
+    let time = time_of position relative in
+    record { north = position.north ⊕ relative.north ⊗ time; east = position.east ⊕ relative.east ⊗ time }
 
 -- how the relative track goes; where it closes, when, to what point, and how far that is
 unfoldable pub track : Distance → Components → Components → Track Closest
@@ -63,7 +66,11 @@ approach_from range position relative =
     let point = closest position relative in
     cond (lt (relative_speed relative) stationary_knots) (Track.Stationary range)
     (cond (le (time_of position relative) zero) (Track.Opening range)
-    (Track.Closing (record { distance = record { 0 = hypot point.north point.east }; time_to_go = time_to_go (time_of position relative); bearing = direction_of point })))
+    (Track.Closing (record {
+      distance = record { 0 = hypot point.north point.east };
+      time_to_go = time_to_go (time_of position relative);
+      bearing = direction_of point;
+    })))
 
 unfoldable pub approach : Vessel → Contact → Vessel → Track Cpa
 approach own contact target = approach_from contact.range (offset contact) (relative_velocity own target)
@@ -94,29 +101,6 @@ bearing_if_accepted (Ok tt) b = Ok (record { 0 = b })
 bearing_if_accepted (Err why) b = Err why
 
 unfoldable pub bearing_answer : Vessel → Contact → Result RelativeBearing Refusal
-bearing_answer own contact = bearing_if_accepted (verdict (vessel_checks own ++ contact_checks contact) (Ok tt)) (whole_fold (contact.bearing.0 ⊖ own.course.0))
-
--- ---- document 01's number of an answer, 0 where it is answered, and its values
-abbrev pub cpa_number : Result (Track Cpa) Refusal → ℕ
-cpa_number (Ok a) = 0
-cpa_number (Err why) = number_of why
-
--- 0 closing, 1 opening, 2 stationary
-abbrev pub approach_kind : Track Cpa → ℕ
-approach_kind (Track.Closing cpa) = 0
-approach_kind (Track.Opening range) = 1
-approach_kind (Track.Stationary range) = 2
-
--- the CPA, or the range
-abbrev pub approach_distance : Track Cpa → Float
-approach_distance (Track.Closing cpa) = cpa.distance.0
-approach_distance (Track.Opening range) = range.0
-approach_distance (Track.Stationary range) = range.0
-
-abbrev pub bearing_number : Result RelativeBearing Refusal → ℕ
-bearing_number (Ok b) = 0
-bearing_number (Err why) = number_of why
-
-abbrev pub bearing_value : Result RelativeBearing Refusal → Float
-bearing_value (Ok b) = b.0
-bearing_value (Err why) = nan
+bearing_answer own contact =
+    bearing_if_accepted (verdict (vessel_checks own ++ contact_checks contact) (Ok tt))
+    (whole_fold (contact.bearing.0 ⊖ own.course.0))

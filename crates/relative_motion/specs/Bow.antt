@@ -1,11 +1,11 @@
--- The range ahead at which a contact crosses own track (relative_motion.rs, `bow_crossing_range`), operation by operation.
-use Rattle.std.specs.Prelude.{cond, ◌||◌, ℕ, Float, Err, Ok}
-use Rattle.std.specs.Float.{nan, binary64}
+-- The range ahead at which a contact crosses own track (relative_motion.rs, `bow_crossing_range`),
+-- operation by operation.
+use Rattle.std.specs.Prelude.{cond, ◌||◌, Float, Err, Ok}
+use Rattle.std.specs.Float.{binary64}
 use Rattle.std.specs.Float.Ieee.{neg, lt, le, of_bits}
 use Rattle.laws.specs.Ops.{◌⊕◌, ◌⊖◌, ◌⊗◌, ◌⊘◌}
 use Rattle.math.specs.Sign.{abs}
 use Rattle.math.specs.Test.{larger}
-use Rattle.elementary.specs.Refusal.{number_of}
 use Rattle.elementary.specs.declared.error.Refusal.TheVariants as Why
 use Rattle.std.specs.declared.result.Result.{Result}
 use Rattle.elementary.specs.declared.error.Refusal.{Refusal}
@@ -47,12 +47,3 @@ unfoldable pub bow_answer : Vessel → Contact → Vessel → Result Distance Re
 bow_answer own contact target =
     bow_if_accepted (verdict (encounter_checks own contact target) (Ok tt))
     (crossing contact.range.0 (offset contact) (relative_velocity own target) (unit own.course.0))
-
--- document 01's number of an answer, 0 where it is answered, and its value
-abbrev pub bow_number : Result Distance Refusal → ℕ
-bow_number (Ok d) = 0
-bow_number (Err why) = number_of why
-
-abbrev pub bow_value : Result Distance Refusal → Float
-bow_value (Ok d) = d.0
-bow_value (Err why) = nan

@@ -1,5 +1,7 @@
--- The courses that bring a contact to a wanted distance (relative_motion.rs, `course_for_cpa`), operation by operation. The Rust keeps the courses that it finds in an array and then goes through them; here each is offered as it is found, in the same order.
-use Rattle.std.specs.Prelude.{Bool, true, false, ◌&&◌, cond, ◌++◌, ℕ, Float, None, Some, Err, Ok}
+-- The courses that bring a contact to a wanted distance (relative_motion.rs, `course_for_cpa`),
+-- operation by operation. The Rust keeps the courses that it finds in an array and then goes
+-- through them; here each is offered as it is found, in the same order.
+use Rattle.std.specs.Prelude.{Bool, true, false, ◌&&◌, cond, ◌++◌, Float, None, Some, Err, Ok}
 use Rattle.std.specs.Float.{binary64}
 use Rattle.std.specs.Float.Ieee.{neg, lt, le, of_bits}
 use Rattle.laws.specs.Ops.{◌⊕◌, ◌⊖◌, ◌⊗◌, ◌⊘◌}
@@ -8,7 +10,6 @@ use Rattle.math.specs.Fold.{half_turn, whole_fold}
 use Rattle.roots.specs.Sqrt.{sqrt}
 use Rattle.inverse_trigonometry.specs.Asin.{asin}
 use Rattle.inverse_trigonometry.specs.Atan2.{atan2}
-use Rattle.elementary.specs.Refusal.{number_of}
 use Rattle.elementary.specs.declared.error.Refusal.TheVariants as Why
 use Rattle.std.specs.declared.option.Option.{Option}
 use Rattle.std.specs.declared.result.Result.{Result}
@@ -51,7 +52,8 @@ along own target degrees choice =
     let target_speed_squared = target.north ⊗ target.north ⊕ target.east ⊗ target.east in
     let discriminant = projection ⊗ projection ⊖ (target_speed_squared ⊖ own_speed ⊗ own_speed) in
     let root = sqrt discriminant in
-    cond (lt discriminant zero) choice (at_speed own.course.0 target track (projection ⊖ root) (at_speed own.course.0 target track (projection ⊕ root) choice))
+    cond (lt discriminant zero) choice
+    (at_speed own.course.0 target track (projection ⊖ root) (at_speed own.course.0 target track (projection ⊕ root) choice))
 
 unfoldable pub choice_of : Vessel → Contact → Vessel → Float → BySide (Option Best)
 choice_of own contact target wanted =
@@ -85,9 +87,6 @@ course_if_accepted (Ok tt) a = a
 course_if_accepted (Err why) a = Err why
 
 unfoldable pub course_answer : Vessel → Contact → Vessel → Distance → Result (BySide (Option Direction)) Refusal
-course_answer own contact target desired = course_if_accepted (verdict (encounter_checks own contact target ++ distance_checks desired) (Ok tt)) (course_for own contact target desired.0)
-
--- document 01's number of an answer, 0 where it is answered
-abbrev pub course_number : Result (BySide (Option Direction)) Refusal → ℕ
-course_number (Ok a) = 0
-course_number (Err why) = number_of why
+course_answer own contact target desired =
+    course_if_accepted (verdict (encounter_checks own contact target ++ distance_checks desired) (Ok tt))
+    (course_for own contact target desired.0)

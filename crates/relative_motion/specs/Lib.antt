@@ -1,4 +1,5 @@
--- relative_motion.rs: the closest point of approach, bow crossing, plots, the course for a closest approach.
+-- relative_motion.rs: the closest point of approach, bow crossing, plots, the course for a closest
+-- approach.
 pub mod Approach
 pub mod Bow
 pub mod Course

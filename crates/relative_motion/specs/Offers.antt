@@ -1,4 +1,5 @@
--- The smallest alteration to either side among the courses that are offered (relative_motion.rs, `course_for_cpa`).
+-- The smallest alteration to either side among the courses that are offered (relative_motion.rs,
+-- `course_for_cpa`).
 use Rattle.std.specs.Prelude.{cond, Float, None, Some}
 use Rattle.std.specs.Float.Ieee.{neg, lt}
 use Rattle.laws.specs.Ops.{◌⊖◌}

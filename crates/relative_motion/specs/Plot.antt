@@ -1,12 +1,12 @@
--- A target's course and speed from two plots (relative_motion.rs, `target_from_plot`), operation by operation.
-use Rattle.std.specs.Prelude.{cond, List, [], ◌∷◌, ◌++◌, ℕ, Float, Err, Ok}
+-- A target's course and speed from two plots (relative_motion.rs, `target_from_plot`), operation by
+-- operation.
+use Rattle.std.specs.Prelude.{cond, List, [], ◌∷◌, ◌++◌, Float, Err, Ok}
 use Rattle.std.specs.Float.Ieee.{le}
 use Rattle.laws.specs.Ops.{◌⊕◌, ◌⊖◌, ◌⊘◌}
 use Rattle.math.specs.Fold.{half_fold, reciprocal}
 use Rattle.math.specs.Clock.{is_accepted, hours_of}
 use Rattle.math.specs.declared.duration.Duration.{Duration}
 use Rattle.roots.specs.Hypot.{hypot}
-use Rattle.elementary.specs.Refusal.{number_of}
 use Rattle.elementary.specs.declared.error.Refusal.TheVariants as Why
 use Rattle.std.specs.declared.result.Result.{Result}
 use Rattle.elementary.specs.declared.error.Refusal.{Refusal}
@@ -18,7 +18,9 @@ use Rattle.motion.specs.Check.{zero, Check, check, verdict, vessel_checks, conta
 use Rattle.motion.specs.Vessel.{direction_of, velocity, from_velocity, offset, difference}
 
 unfoldable pub relative_motion : Contact → Contact → Float → Components
-relative_motion first second interval = let moved = difference (offset second) (offset first) in record { north = moved.north ⊘ interval; east = moved.east ⊘ interval }
+relative_motion first second interval =
+    let moved = difference (offset second) (offset first) in
+    record { north = moved.north ⊘ interval; east = moved.east ⊘ interval }
 
 unfoldable pub target_of : Vessel → Components → Vessel
 target_of own relative = let v = velocity own in from_velocity (record { north = relative.north ⊕ v.north; east = relative.east ⊕ v.east })
@@ -49,8 +51,3 @@ plot_if_accepted (Err why) a = Err why
 
 unfoldable pub plot_answer : Vessel → Contact → Contact → Duration → Result TargetSolution Refusal
 plot_answer own first second elapsed = plot_if_accepted (plot_verdict own first second elapsed) (solved own first second (hours_of elapsed))
-
--- document 01's number of an answer, 0 where it is answered
-abbrev pub plot_number : Result TargetSolution Refusal → ℕ
-plot_number (Ok s) = 0
-plot_number (Err why) = number_of why

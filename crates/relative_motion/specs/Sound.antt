@@ -1,7 +1,8 @@
--- What holds of the figures in any answer: they are finite, whatever the arguments were. And of the way to them, on accepted arguments: each elementary function is called inside its domain, and a time worked out is not cut.
+-- What holds of the figures in any answer: they are finite, whatever the arguments were. And of the
+-- way to them, on accepted arguments: each elementary function is called inside its domain, and a
+-- time worked out is not cut.
 use Rattle.std.specs.Prelude.{◌≡◌, false, ◌&&◌, List, [], ◌∷◌, T, None, Some, Err, Ok}
-use Rattle.std.specs.Float.{binary64}
-use Rattle.std.specs.Float.Ieee.{fits, lt, le}
+use Rattle.std.specs.Float.Ieee.{lt, le}
 use Rattle.std.specs.Float.Ieee.Scale.{finite}
 use Rattle.laws.specs.Ops.{◌⊗◌}
 use Rattle.math.specs.Convert.{to_radians}
@@ -80,9 +81,12 @@ pub record Way (position relative : Components) : Type 0 where
   pub speed_domain : T (Hypot.in_domain relative.north && Hypot.in_domain relative.east)
   pub speed_finite : T (finite (relative_speed relative))
   pub time_finite : lt (relative_speed relative) stationary_knots ≡ false → T (finite (time_of position relative))
-  pub distance_domain : lt (relative_speed relative) stationary_knots ≡ false → T (Hypot.in_domain (closest position relative).north && Hypot.in_domain (closest position relative).east)
-  pub bearing_domain : lt (relative_speed relative) stationary_knots ≡ false → T (finite (closest position relative).north) × T (finite (closest position relative).east)
-  pub time_fits : lt (relative_speed relative) stationary_knots ≡ false → le (time_of position relative) zero ≡ false → from_hours (time_of position relative) ≡ Ok (clock (nanos_in (time_of position relative ⊗ seconds_per_hour)))
+  pub distance_domain : lt (relative_speed relative) stationary_knots ≡ false
+      → T (Hypot.in_domain (closest position relative).north && Hypot.in_domain (closest position relative).east)
+  pub bearing_domain : lt (relative_speed relative) stationary_knots ≡ false
+      → T (finite (closest position relative).north) × T (finite (closest position relative).east)
+  pub time_fits : lt (relative_speed relative) stationary_knots ≡ false → le (time_of position relative) zero ≡ false
+      → from_hours (time_of position relative) ≡ Ok (clock (nanos_in (time_of position relative ⊗ seconds_per_hour)))
 
 pub record CpaWay (own : Vessel) (contact : Contact) (target : Vessel) : Type 0 where
   pub own_domain : T (Sine.in_domain (to_radians own.course.0))

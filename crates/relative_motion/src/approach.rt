@@ -20,7 +20,8 @@ pub struct Cpa {
     pub bearing: Direction,
 }
 
-// How the range goes: it closes to a point ahead, of which `C` is what is known, or it opens, or nothing moves.
+// How the range goes: it closes to a point ahead, of which `C` is what is known, or it opens, or
+// nothing moves.
 #[derive(Clone, Copy)]
 pub enum Track<C> {
     Closing(C),
@@ -58,7 +59,8 @@ pub struct Relative {
     pub velocity: Components,
 }
 
-// The point of a contact's track that is closest: the hours until then, where it is, and how far that is.
+// The point of a contact's track that is closest: the hours until then, where it is, and how far
+// that is.
 #[derive(Clone, Copy)]
 struct Closest {
     hours: f64,
@@ -66,7 +68,8 @@ struct Closest {
     distance: Distance,
 }
 
-// A time of so many hours; the longest one where it is too long, which no accepted argument brings about.
+// A time of so many hours; the longest one where it is too long, which no accepted argument brings
+// about.
 #[tactic(auto, unfolding(crate::specs::Approach::time_to_go))]
 fn time_to_go(hours: f64) -> Duration
     ensures { result ≡ Spec.time_to_go hours }

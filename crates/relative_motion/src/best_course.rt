@@ -14,7 +14,8 @@ pub struct Best {
 // The best so far on each side.
 pub type Choice = BySide<Option<Best>>;
 
-// The smaller of two alterations to a side, the first of equals (`!(a < b)` is not `a >= b`: of what is no number it is true).
+// The smaller of two alterations to a side, the first of equals (`!(a < b)` is not `a >= b`: of
+// what is no number it is true).
 fn smaller(best: Option<Best>, offer: Best) -> Option<Best>
     ensures { result ≡ Spec.smaller best offer.alteration offer.course }
 {
@@ -22,8 +23,9 @@ fn smaller(best: Option<Best>, offer: Best) -> Option<Best>
         .or(Some(offer))
 }
 
-// One course more to choose from. No alteration at all belongs to neither side. The arms stay two: a setter by side would need a definition and a
-// proof of its own, and the side and the sign would still be told apart here.
+// One course more to choose from. No alteration at all belongs to neither side. The arms stay two:
+// a setter by side would need a definition and a proof of its own, and the side and the sign would
+// still be told apart here.
 #[tactic(auto, unfolding(crate::specs::Offers::offered))]
 pub(crate) fn offered(own_course: f64, course: f64, choice: Choice) -> Choice
     ensures { result ≡ Spec.offered own_course course choice }

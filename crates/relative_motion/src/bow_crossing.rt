@@ -1,5 +1,6 @@
-// The range ahead at which a contact crosses own track, from relative_motion.rs. Arguments outside the ranges of document 01 are
-// refused by its numbers, in its order. The definitions in specs/ follow the Rust operation by operation.
+// The range ahead at which a contact crosses own track, from relative_motion.rs. Arguments outside
+// the ranges of document 01 are refused by its numbers, in its order. The definitions in specs/
+// follow the Rust operation by operation.
 ghost use Rattle.std.specs.Prelude.{◌≡◌};
 ghost use Rattle.relative_motion.specs.Bow as Spec;
 
@@ -29,8 +30,8 @@ pub fn crossing(seen: Relative, ahead: Components) -> Result<Distance, Refusal>
     if math::abs(determinant) < PARALLEL {
         return Err(Refusal::AlongOwnTrack);
     }
-    // The other two are not by `cross`: of the next one a sign stands elsewhere, of the last one the factors in another order, and each would need a
-    // law of f64s in the proof.
+    // The other two are not by `cross`: of the next one a sign stands elsewhere, of the last one
+    // the factors in another order, and each would need a law of f64s in the proof.
     let time = (-offset.north * -ahead.east + offset.east * -ahead.north) / determinant;
     if time <= 0.0 {
         return Err(Refusal::NotAhead);

@@ -59,7 +59,8 @@ fn grazing(wanted: f64, range: f64) -> f64
     math::to_degrees(inverse_trigonometry::arctangent::asin((wanted / range).clamp(-1.0, 1.0)))
 }
 
-// The two relative tracks that touch the wanted distance, and the best course of each side for them.
+// The two relative tracks that touch the wanted distance, and the best course of each side for
+// them.
 #[tactic(auto, unfolding(crate::specs::Course::choice_of))]
 fn choice_of(own: Vessel, contact: Contact, target: Vessel, wanted: f64) -> Choice
     ensures { result ≡ Spec.choice_of own contact target wanted }
@@ -90,7 +91,8 @@ fn avoidance_of(choice: Choice) -> Result<Avoidance, Refusal>
     Ok(Avoidance { starboard, port })
 }
 
-// With accepted arguments. `!(a <= b)` is not `a > b`: of what is no number it is true, as the definition has it.
+// With accepted arguments. `!(a <= b)` is not `a > b`: of what is no number it is true, as the
+// definition has it.
 #[tactic(auto, unfolding(crate::specs::Course::course_for, motion::specs::Check::verdict))]
 fn course_for(
     own: Vessel,
@@ -105,7 +107,8 @@ fn course_for(
     avoidance_of(choice_of(own, contact, target, wanted))
 }
 
-// The courses at own speed that give a closest approach of at least `desired`: the smallest alteration to either side.
+// The courses at own speed that give a closest approach of at least `desired`: the smallest
+// alteration to either side.
 #[tactic(auto, unfolding(crate::specs::Course::course_answer, motion::specs::Check::encounter_checks, motion::specs::Check::verdict))]
 pub fn course_for_cpa(
     own: Vessel,

@@ -8,7 +8,8 @@ use motion::units::{Angle, Direction, Speed};
 use motion::vessel;
 use motion::vessel::{Components, Contact, Vessel};
 
-// What two plots tell of a target. The aspect is own craft's bearing off the target's bow, negative on its port side.
+// What two plots tell of a target. The aspect is own craft's bearing off the target's bow, negative
+// on its port side.
 #[derive(Clone, Copy)]
 pub struct TargetSolution {
     pub vessel: Vessel,

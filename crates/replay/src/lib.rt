@@ -1,5 +1,5 @@
-// Records of little-endian words, read from a program's input and answered one after the other: how the programs that replay the
-// Rust's answers read (docs/COMPARISON.md).
+// Records of little-endian words, read from a program's input and answered one after the other: how
+// the programs that replay the Rust's answers read (docs/COMPARISON.md).
 #![tactic(auto)]
 
 ghost use Rattle.std.specs.Prelude.{◌≡◌, ℕ, ◌%◌, ◌^◌, List, length, get_or, IfOk, OnOk, true, false};
@@ -25,8 +25,8 @@ pub trait Replayed {
         ensures { Answers self.now bytes.now result };
 }
 
-// Word i of a record, 0 where there is none. Apart from `sheet_record::word::word_at`, of words of four bytes: one function for both would want a trait
-// for `from_le_bytes` of `u64` and `u32`.
+// Word i of a record, 0 where there is none. Apart from `sheet_record::word::word_at`, of words of
+// four bytes: one function for both would want a trait for `from_le_bytes` of `u64` and `u32`.
 pub fn word(bytes: &[u8], i: usize) -> u64
     ensures { result ≡ get_or (Spec.words bytes.now) i 0 }
 {
@@ -54,7 +54,8 @@ fn put<W: Write>(output: &mut W, v: u64) -> io::Result<()>
     writeln!(output, "{:016x}", v)
 }
 
-// Answers one record, which has as many bytes as there is room for, and whether there was one: what is less than a record ends the input.
+// Answers one record, which has as many bytes as there is room for, and whether there was one: what
+// is less than a record ends the input.
 fn next<R: Read, W: Write, F: Replayed>(
     input: &mut R,
     output: &mut W,
@@ -75,7 +76,8 @@ fn next<R: Read, W: Write, F: Replayed>(
     Ok(true)
 }
 
-// Answers the records of the input one after the other, with a line for each: sixteen hexadecimal digits.
+// Answers the records of the input one after the other, with a line for each: sixteen hexadecimal
+// digits.
 pub fn replay<R: Read, W: Write, F: Replayed>(
     input: &mut R,
     output: &mut W,

@@ -1,4 +1,6 @@
--- What was printed for a sheet before request R-1: `report`'s definitions as they stand in `report/specs/Report.antt`, over the reading without the wind (`sheet/specs/Before.antt`), every situation with the wind unknown.
+-- What was printed for a sheet before request R-1: `report`'s definitions as they stand in
+-- `report/specs/Report.antt`, over the reading without the wind (`sheet/specs/Before.antt`), every
+-- situation with the wind unknown.
 use Rattle.std.specs.Prelude.{◌≡◌, true, false, List, ◌++◌, map, ℕ, length, None, Err, Ok}
 use Rattle.elementary.specs.declared.error.Refusal.TheVariants as Why
 use Rattle.std.specs.declared.result.Result.{Result}

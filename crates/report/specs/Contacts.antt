@@ -1,6 +1,8 @@
--- The lines on a sheet's contacts (01, 'Encounter sheet and its program': a CONTACT line for each contact, of what `closest_point_of_approach`, the assessment and `rule_of_the_road` say of it).
+-- The lines on a sheet's contacts (01, 'Encounter sheet and its program': a CONTACT line for each
+-- contact, of what `closest_point_of_approach`, the assessment and `rule_of_the_road` say of it).
 --
--- A sheet's values are checked before they are asked, so that on an accepted sheet none of them refuses (proofs/Accepted.antt).
+-- A sheet's values are checked before they are asked, so that on an accepted sheet none of them
+-- refuses (proofs/Accepted.antt).
 use mathlib.Core.List.{List, flat_map}
 use Rattle.std.specs.Prelude.{ℕ, Err, Ok}
 use Rattle.assessment.specs.declared.policy.CpaPolicy.{CpaPolicy}

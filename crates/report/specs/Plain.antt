@@ -1,4 +1,5 @@
--- What is printed on an accepted sheet, without the refusals that do not occur there (01, 'Encounter sheet and its program').
+-- What is printed on an accepted sheet, without the refusals that do not occur there (01,
+-- 'Encounter sheet and its program').
 use Rattle.std.specs.Prelude.{◌≡◌, ◌⊎◌, ℕ, None, Err}
 use mathlib.Core.List.{List, ◌++◌, map, flat_map}
 use Rattle.elementary.specs.declared.error.Refusal.{Refusal}
@@ -53,7 +54,9 @@ module _ (h : Header) where
   abbrev pub plain_answer : List Row → Result RuledManoeuvre Refusal
   plain_answer rs = ruled (own_of h) (map entry_of rs) (visibility_of h.visibility) (wind_from h) desired constraints
 
--- a line for each contact, in the sheet's order, then the ruled search's answer, which meets demand 3 and refuses with 5 or 13 only; with the wind, no contact on a known tack is left undetermined for own craft on one (R-1)
+-- a line for each contact, in the sheet's order, then the ruled search's answer, which meets demand
+-- 3 and refuses with 5 or 13 only; with the wind, no contact on a known tack is left undetermined
+-- for own craft on one (R-1)
 pub record Reported (s : List ℕ) (h : Header) (rs : List Row) : Type 0 where
   pub lines : report s ≡ flat_map (plain_line h) rs ++ answer_line rs (plain_answer h rs)
   pub demand : OnAccepted (own_of h) (map entry_of rs) (visibility_of h.visibility) (wind_from h) (desired h) (constraints h) (plain_answer h rs)

@@ -1,6 +1,11 @@
--- What the encounter program prints for a sheet (01, 'Encounter sheet and its program': a CONTACT line for each contact, 'then the ruled search's answer'; 'numbers 5 and 13 print `REFUSED n` in place of ALTER; other refusals print that line alone'; R-1: 'the ruled search is judged with the wind in every situation').
+-- What the encounter program prints for a sheet (01, 'Encounter sheet and its program': a CONTACT
+-- line for each contact, 'then the ruled search's answer'; 'numbers 5 and 13 print `REFUSED n` in
+-- place of ALTER; other refusals print that line alone'; R-1: 'the ruled search is judged with the
+-- wind in every situation').
 --
--- The lines are made of what the module's functions answer. A sheet's values are checked before they are asked, so that on an accepted sheet none of them refuses but the ruled search with 5 and 13 (proofs/Reports.antt).
+-- The lines are made of what the module's functions answer. A sheet's values are checked before
+-- they are asked, so that on an accepted sheet none of them refuses but the ruled search with 5 and
+-- 13 (proofs/Reports.antt).
 use Rattle.std.specs.Prelude.{List, ◌++◌, map, ℕ, length, Err, Ok}
 use Rattle.std.specs.declared.result.Result.{Result}
 use Rattle.elementary.specs.declared.error.Refusal.{Refusal}
@@ -20,7 +25,9 @@ unfoldable pub use Rattle.sheet.specs.Limits.{id_at, policy_of, constraints_of}
 
 -- ---- the ruled search's answer
 unfoldable pub search_answer : Header → List Row → ManoeuvreConstraints → Result RuledManoeuvre Refusal
-search_answer h rs c = ruled_answer (own_of h) (length rs) (map entry_of rs) (visibility_of h.visibility) (wind_from h) (record { 0 = scaled h.desired }) c
+search_answer h rs c =
+    ruled_answer (own_of h) (length rs) (map entry_of rs) (visibility_of h.visibility) (wind_from h)
+    (record { 0 = scaled h.desired }) c
 
 abbrev pub answer_line : List Row → Result RuledManoeuvre Refusal → List ℕ
 answer_line rs (Ok m) = alter_line m (id_at rs m.limiting)

@@ -1,4 +1,5 @@
-// The lines on a sheet's contacts: of each what `closest_point_of_approach`, the assessment and `rule_of_the_road` say of it.
+// The lines on a sheet's contacts: of each what `closest_point_of_approach`, the assessment and
+// `rule_of_the_road` say of it.
 #![tactic(auto, unfolding(crate::specs::Contacts::contact_lines))]
 
 ghost use Rattle.std.specs.Prelude.{◌≡◌};
@@ -15,7 +16,8 @@ use situation::config::ColregsConfig;
 use situation::party::Circumstances;
 use text::{Pieces, Text};
 
-// The lines on rows, on which all have own craft, the visibility, the wind and the policy in common.
+// The lines on rows, on which all have own craft, the visibility, the wind and the policy in
+// common.
 #[derive(Drop)]
 struct Lines {
     around: Circumstances,
@@ -26,7 +28,8 @@ impl Lines {
     // The line on a row, unless an answer that it is made of is a refusal.
     #[tactic(auto, unfolding(crate::specs::Contacts::line_of))]
     fn contact(&self, t: &mut Text, row: Row) -> Result<(), Refusal>
-        ensures { with_refusal t.new result ≡ appended t.old (Spec.line_of self.now.around.own self.now.around.visibility self.now.around.wind_from self.now.policy row) }
+        ensures { with_refusal t.new result ≡ appended t.old
+            (Spec.line_of self.now.around.own self.now.around.visibility self.now.around.wind_from self.now.policy row) }
     {
         let Entry { contact, target } = sheet::values::entry_of(row);
         let own = self.around.own.motion;

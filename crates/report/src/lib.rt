@@ -1,4 +1,5 @@
-// From a sheet's bytes to the lines that the encounter program prints (document 01, 'Encounter sheet and its program').
+// From a sheet's bytes to the lines that the encounter program prints (document 01, 'Encounter
+// sheet and its program').
 #![tactic(auto)]
 
 pub mod contacts;

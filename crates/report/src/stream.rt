@@ -1,4 +1,5 @@
-// A sheet's way in and its report's way out, for the programs on sheets: reading until the end of the input, and printing the report.
+// A sheet's way in and its report's way out, for the programs on sheets: reading until the end of
+// the input, and printing the report.
 ghost use Rattle.std.specs.Prelude.{IfOk, OnOk, length};
 ghost use Rattle.std.specs.Io.KnownBytes.{Appends};
 ghost use Rattle.report.specs.Report.{report};
@@ -6,9 +7,9 @@ ghost use Rattle.report.specs.Reading.{IsRead};
 
 use std::io::{self, Read, Write};
 
-// Reads until `buf` is full or the input ends, and answers how many bytes it read. If a read fails, so does this, so that a part of a
-// sheet is never taken for a sheet. A loop of its own: the library's `read_exact` fails where the input ends before that, and `read_to_end`
-// wants a heap.
+// Reads until `buf` is full or the input ends, and answers how many bytes it read. If a read fails,
+// so does this, so that a part of a sheet is never taken for a sheet. A loop of its own: the
+// library's `read_exact` fails where the input ends before that, and `read_to_end` wants a heap.
 pub fn read_full<R: Read>(input: &mut R, buf: &mut [u8]) -> io::Result<usize>
     ensures { IfOk result (λ n. IsRead (R.remaining input.old) (length buf.old) n buf.new) }
 {

@@ -1,4 +1,6 @@
--- The hypotenuse (document 01, 'Elementary functions'), for finite sides of at most 2 ^ 500: the larger magnitude if a side is 0 or the larger magnitude is below 2 ^ -500, and else the root of the sum of the squares.
+-- The hypotenuse (document 01, 'Elementary functions'), for finite sides of at most 2 ^ 500: the
+-- larger magnitude if a side is 0 or the larger magnitude is below 2 ^ -500, and else the root of
+-- the sum of the squares.
 use Rattle.std.specs.Prelude.{◌≡◌, Bool, false, not, ◌&&◌, ◌||◌, cond, ◌⊎◌, ℕ, ◌+◌, ◌*◌, ◌^◌, ◌≤◌, ◌<◌, T, ltb, Float}
 use Rattle.std.specs.Float.{nan, binary64}
 use Rattle.std.specs.Float.Ieee.{fits, add, mul, lt, le, eq, of_bits}
@@ -37,8 +39,10 @@ pub record Hypotenuse (x y r : Float) : Type 0 where
   pub number : T (finite r)
   pub positive : sign r ≡ false
   pub plain : (units_of x ≡ 0) ⊎ (units_of y ≡ 0) ⊎ (larger (units_of x) (units_of y) < 2 ^ 574) → units_of r ≡ larger (units_of x) (units_of y)
-  pub over : 0 < units_of x → 0 < units_of y → 2 ^ 574 ≤ larger (units_of x) (units_of y) → 2 ^ 50 * (units_of r * units_of r) ≤ (2 ^ 50 + 1) * (units_of x * units_of x + units_of y * units_of y)
-  pub under : 0 < units_of x → 0 < units_of y → 2 ^ 574 ≤ larger (units_of x) (units_of y) → 2 ^ 50 * (units_of x * units_of x + units_of y * units_of y) ≤ 2 ^ 50 * (units_of r * units_of r) + (units_of x * units_of x + units_of y * units_of y)
+  pub over : 0 < units_of x → 0 < units_of y → 2 ^ 574 ≤ larger (units_of x) (units_of y)
+      → 2 ^ 50 * (units_of r * units_of r) ≤ (2 ^ 50 + 1) * (units_of x * units_of x + units_of y * units_of y)
+  pub under : 0 < units_of x → 0 < units_of y → 2 ^ 574 ≤ larger (units_of x) (units_of y)
+      → 2 ^ 50 * (units_of x * units_of x + units_of y * units_of y) ≤ 2 ^ 50 * (units_of r * units_of r) + (units_of x * units_of x + units_of y * units_of y)
 
 -- inside the domain as above, and NaN outside it
 pub record IsHypot (x y r : Float) : Type 0 where

@@ -6,7 +6,8 @@ pub record IsRoot (n r : ℕ) : Type 0 where
   pub at_most : r * r ≤ n
   pub above : n < (r + 1) * (r + 1)
 
--- r is the whole number nearest to the square root of n: (r - 1/2)² < n < (r + 1/2)². As n is whole there is no tie.
+-- r is the whole number nearest to the square root of n: (r - 1/2)² < n < (r + 1/2)². As n is whole
+-- there is no tie.
 pub record NearestRoot (n r : ℕ) : Type 0 where
   pub low : r * r < n + r
   pub high : n ≤ r * r + r

@@ -1,8 +1,9 @@
 // The square root and the hypotenuse of f64s, by whole numbers.
 //
-// `sqrt` takes the digits m and the exponent j of its argument, which is m * 2^j in units of 2^-2148, and finds the whole number
-// nearest to the root of m * 2^52 or m * 2^53. A float computation makes a guess, whole numbers decide: the square of the guess tells whether it
-// is the nearest, or the number after or before it is, and if none is the library's whole root decides.
+// `sqrt` takes the digits m and the exponent j of its argument, which is m * 2^j in units of
+// 2^-2148, and finds the whole number nearest to the root of m * 2^52 or m * 2^53. A float
+// computation makes a guess, whole numbers decide: the square of the guess tells whether it is the
+// nearest, or the number after or before it is, and if none is the library's whole root decides.
 #![tactic(auto)]
 
 ghost use Rattle.std.specs.Prelude.{◌≡◌, ◌+◌, ◌*◌, ◌%◌, ◌^◌, ◌≤◌, ◌<◌};
@@ -16,7 +17,8 @@ use math::{LEADING, Parts};
 // 2^54: what an excess of 0 counts as.
 const MIDDLE: u64 = 18014398509481984;
 
-// The largest argument of the hypotenuse, 2^500, and the size below which it is the larger argument, 2^-500.
+// The largest argument of the hypotenuse, 2^500, and the size below which it is the larger
+// argument, 2^-500.
 const LARGEST: f64 = 3.273390607896142e150;
 
 const SMALL: f64 = 3.054936363499605e-151;
@@ -42,7 +44,8 @@ struct Scaled {
 }
 
 impl Scaled {
-    // A float above 0, its leading digit moved up where it has fewer digits than the normal numbers.
+    // A float above 0, its leading digit moved up where it has fewer digits than the normal
+    // numbers.
     fn of(n: Parts) -> Scaled
         requires { (0 < n.digits) × (n.place ≤ 2045) }
         ensures { n.digits * 2 ^ n.place * 2 ^ 1074 ≡ result.m * 2 ^ result.j }
@@ -163,9 +166,10 @@ impl Trial {
     }
 }
 
-// The square root, rounded to the nearest f64: -0 and plus infinity stay, negative numbers and NaN give NaN.
-// It is not `f64::sqrt`: that is the processor's operation, taken on trust, and by the project's rule the elementary functions rest on
-// sums, products, quotients and comparisons of floats, and on whole numbers.
+// The square root, rounded to the nearest f64: -0 and plus infinity stay, negative numbers and NaN
+// give NaN. It is not `f64::sqrt`: that is the processor's operation, taken on trust, and by the
+// project's rule the elementary functions rest on sums, products, quotients and comparisons of
+// floats, and on whole numbers.
 pub fn sqrt(x: f64) -> f64
     ensures { result ≡ sqrtOf x }
 {

@@ -106,43 +106,43 @@ none_of_map f [] e = refl
 none_of_map f (x ∷ l) e = absurd (nil≢cons (sym e))
 
 module _ (desired : Distance) (v : Vessel) (o : FitVessel v) (entries : List Entry) (f : (e : Entry) → Memᴰ e entries → FitTarget (target_of e)) where
-  abbrev passage_of : Entry → Option Distance
-  passage_of e = contact_clears v (floor_of desired) (target_of e)
+  abbrev clearance_of : Entry → Option Distance
+  clearance_of e = contact_clears v (floor_of desired) (target_of e)
 
-  abbrev passages : List (Option Distance)
-  passages = map (contact_clears v (floor_of desired)) (map target_of entries)
+  abbrev clearances : List (Option Distance)
+  clearances = map (contact_clears v (floor_of desired)) (map target_of entries)
 
   targets : FitTargets (map target_of entries)
   targets t m = let u = Memᴰ.of_map target_of entries m in subst FitTarget u.2 (f u.0 u.1)
 
-  not-nan : Real passages
+  not-nan : Real clearances
   not-nan = real v o (map target_of entries) targets (floor_of desired)
 
-  in-passages : (e : Entry) → Memᴰ e entries → Memᴰ (passage_of e) passages
-  in-passages e m = Memᴰ.map (contact_clears v (floor_of desired)) (Memᴰ.map target_of m)
+  in-clearances : (e : Entry) → Memᴰ e entries → Memᴰ (clearance_of e) clearances
+  in-clearances e m = Memᴰ.map (contact_clears v (floor_of desired)) (Memᴰ.map target_of m)
 
-  of_entries : passages ≡ map passage_of entries
+  of_entries : clearances ≡ map clearance_of entries
   of_entries = map-map (contact_clears v (floor_of desired)) target_of entries
 
   -- it does not clear: then some contact closes under
-  pub not_clear : clearing passages ≡ None → ((e : Entry) → Memᴰ e entries → ClosesUnder desired v e → ⊥) → ⊥
+  pub not_clear : clearing clearances ≡ None → ((e : Entry) → Memᴰ e entries → ClosesUnder desired v e → ⊥) → ⊥
   not_clear h all =
-      let u = Memᴰ.of_map passage_of entries (subst (Memᴰ None) of_entries (blocked passages not-nan h)) in
+      let u = Memᴰ.of_map clearance_of entries (subst (Memᴰ None) of_entries (blocked clearances not-nan h)) in
       all u.0 u.1 (blocked_closes desired v u.0 o (f u.0 u.1) u.2)
 
-  module _ (p : Clearance) (h : clearing passages ≡ Some p) where
+  module _ (p : Clearance) (h : clearing clearances ≡ Some p) where
     -- it clears: then none does
     pub all_clear : (e : Entry) → Memᴰ e entries → ClosesUnder desired v e → ⊥
-    all_clear e m u = no_yes p (sym (blocks_it passages not-nan (subst (λ q. Memᴰ q passages) (closes_blocks desired v e u) (in-passages e m))) ∙ h)
+    all_clear e m u = no_yes p (sym (blocks_it clearances not-nan (subst (λ q. Memᴰ q clearances) (closes_blocks desired v e u) (in-clearances e m))) ∙ h)
 
-    said : ((passages ≡ []) × (p ≡ record { distance = record { 0 = largest }; limiting = None })) ⊎ Closest passages p
-    said = clear passages not-nan p h
+    said : ((clearances ≡ []) × (p ≡ record { distance = record { 0 = largest }; limiting = None })) ⊎ Closest clearances p
+    said = clear clearances not-nan p h
 
     pub at_most : (e : Entry) → Memᴰ e entries → T (le p.distance.0 (passing_distance v e).0)
-    at_most e m = ⊎_elim (λ k. absurd (Memᴰ.not-nil (subst (Memᴰ (passage_of e)) k.0 (in-passages e m)))) by said
+    at_most e m = ⊎_elim (λ k. absurd (Memᴰ.not-nil (subst (Memᴰ (clearance_of e)) k.0 (in-clearances e m)))) by said
       where
-        by : Closest passages p → T (le p.distance.0 (passing_distance v e).0)
-        by c = let q = c.each (passage_of e) (in-passages e m) in subst (λ d. T (le p.distance.0 d.0)) (sym (passes_at desired v e q.0 q.1)) q.2
+        by : Closest clearances p → T (le p.distance.0 (passing_distance v e).0)
+        by c = let q = c.each (clearance_of e) (in-clearances e m) in subst (λ d. T (le p.distance.0 d.0)) (sym (passes_at desired v e q.0 q.1)) q.2
 
     pub free : entries ≡ [] → p ≡ record { distance = record { 0 = largest }; limiting = None }
     free e = ⊎_elim (λ k. k.1) (λ c. absurd (Memᴰ.not-nil (subst (Memᴰ (Some p.distance)) (sym c.split ∙ ap (λ es. map (contact_clears v (floor_of desired)) (map target_of es)) e) (Memᴰ.append_right c.before (Memᴰ.head refl))))) said
@@ -150,11 +150,11 @@ module _ (desired : Distance) (v : Vessel) (o : FitVessel v) (entries : List Ent
     pub first : (entries ≡ [] → ⊥) → (place : ℕ) × (p.limiting ≡ Some place) × FirstAt entries v p.distance place
     first some = ⊎_elim (λ k. absurd (some (none_of_map target_of entries (none_of_map (contact_clears v (floor_of desired)) (map target_of entries) k.0)))) by said
       where
-        by : Closest passages p → (place : ℕ) × (p.limiting ≡ Some place) × FirstAt entries v p.distance place
+        by : Closest clearances p → (place : ℕ) × (p.limiting ≡ Some place) × FirstAt entries v p.distance place
         by c =
-            let k = cut_map passage_of entries c.before (Some p.distance) c.after (sym of_entries ∙ c.split) in (
+            let k = cut_map clearance_of entries c.before (Some p.distance) c.after (sym of_entries ∙ c.split) in (
               length k.front,
-              c.place ∙ ap (λ l. Some (length l)) (sym k.is_front) ∙ ap Some (length-map k.front passage_of),
+              c.place ∙ ap (λ l. Some (length l)) (sym k.is_front) ∙ ap Some (length-map k.front clearance_of),
               record {
                 before = k.front;
                 it = k.it;
@@ -162,6 +162,6 @@ module _ (desired : Distance) (v : Vessel) (o : FitVessel v) (entries : List Ent
                 split = k.split;
                 placed = refl;
                 passes = passes_at desired v k.it p.distance k.is_it;
-                earlier = λ e m. let q = c.earlier (passage_of e) (subst (Memᴰ (passage_of e)) k.is_front (Memᴰ.map passage_of m)) in subst (λ d. T (lt p.distance.0 d.0)) (sym (passes_at desired v e q.0 q.1)) q.2;
+                earlier = λ e m. let q = c.earlier (clearance_of e) (subst (Memᴰ (clearance_of e)) k.is_front (Memᴰ.map clearance_of m)) in subst (λ d. T (lt p.distance.0 d.0)) (sym (passes_at desired v e q.0 q.1)) q.2;
               },
             )

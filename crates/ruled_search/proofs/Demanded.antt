@@ -1,4 +1,5 @@
 -- The definition of the ruled search meets demand 3.
+use Rattle.elementary.specs.Refusal.{answer_number}
 use Rattle.std.specs.Prelude.{None, Some, Err, Ok}
 use mathlib.Core.Path.{◌≡◌, refl, sym, ap, ◌∙◌, subst}
 use mathlib.Core.Bool.{Bool, true, false, cond, ◌||◌, true≢false}
@@ -45,7 +46,7 @@ use Rattle.avoidance.proofs.Prepared.{altered_fit}
 use Rattle.avoidance.proofs.Searched.{trial-small, signed-small}
 use Rattle.avoidance.proofs.Chosen.{is_choice, no_choice}
 use Rattle.ruled_search.specs.declared.RuledManoeuvre.{RuledManoeuvre}
-use Rattle.ruled_search.specs.Ruled.{shared_sides, ruled_checks, manoeuvre_of, chosen_answer, answered, ruled, ruled_if_accepted, ruled_number, ruled_answer}
+use Rattle.ruled_search.specs.Ruled.{shared_sides, ruled_checks, manoeuvre_of, chosen_answer, answered, ruled, ruled_if_accepted, ruled_answer}
 use Rattle.ruled_search.specs.Demand3.{approach_to, Shared, Trial, Clears, Smallest, OnAccepted, Demand3}
 use Rattle.ruled_search.specs.Held.{HeldArguments}
 use Rattle.ruled_search.proofs.Accepted as Accepted
@@ -58,13 +59,13 @@ which other (Ok m) = m
 which other (Err why) = other
 
 answered-not-5 : (m : RuledManoeuvre) → Ok m ≡ Err Why.NoTrialClears → ⊥
-answered-not-5 m e = let z : ◌≡◌ {A = ℕ} 0 5 = ap ruled_number e in omega arith
+answered-not-5 m e = let z : ◌≡◌ {A = ℕ} 0 5 = ap answer_number e in omega arith
 
 answered-not-13 : (m : RuledManoeuvre) → Ok m ≡ Err Why.NoSharedSide → ⊥
-answered-not-13 m e = let z : ◌≡◌ {A = ℕ} 0 13 = ap ruled_number e in omega arith
+answered-not-13 m e = let z : ◌≡◌ {A = ℕ} 0 13 = ap answer_number e in omega arith
 
 five_not_13 : ◌≡◌ {A = Result RuledManoeuvre Refusal} (Err Why.NoTrialClears) (Err Why.NoSharedSide) → ⊥
-five_not_13 e = let z : ◌≡◌ {A = ℕ} 5 13 = ap ruled_number e in omega arith
+five_not_13 e = let z : ◌≡◌ {A = ℕ} 5 13 = ap answer_number e in omega arith
 
 -- ---- whether there is a side
 some_allowed : (s : BySide Bool) (side : Side) → T (allows s side) → s.starboard || s.port ≡ true

@@ -1,4 +1,5 @@
--- Demand 3 of the order, a field for each of its clauses, in terms of `trials`, `rule_of_the_road`, `closest_point_of_approach` and the list of contacts alone.
+-- Demand 3 of the order, a field for each of its clauses, in terms of `trials`, `rule_of_the_road`,
+-- `closest_point_of_approach` and the list of contacts alone.
 use Rattle.std.specs.Prelude.{◌≡◌, ℕ, length, T, Float, None, Some, Err, Ok}
 use mathlib.Core.List.{List, [], ◌∷◌, ◌++◌, Memᴰ}
 use Rattle.std.specs.Float.Ieee.{eq, lt, le}
@@ -115,7 +116,8 @@ module _ (own : Party) (contacts : List Entry) (visibility : Visibility) (wind :
   pub record OnAccepted (answer : Result RuledManoeuvre Refusal) : Type 0 where
     -- every contact has a ruling
     pub each_ruled : (e : Entry) → Memᴰ e contacts → (r : Ruling) × (ruling_answer (situation_of own visibility wind e) standard ≡ Ok r)
-    -- and on every trial's course `closest_point_of_approach` answers for it, so that 'no contact closes' is never said of a refusal
+    -- and on every trial's course `closest_point_of_approach` answers for it, so that 'no contact
+    -- closes' is never said of a refusal
     pub each_approach : (side : Side) (m : Float) → Trial m → (e : Entry) → Memᴰ e contacts → (a : Track Cpa) × (approach_to (on side m) e ≡ Ok a)
     -- 'the ruled search refuses with 13 exactly if the rulings share no side,
     pub no_side : answer ≡ Err Why.NoSharedSide → (side : Side) → Shared side → ⊥
@@ -123,13 +125,15 @@ module _ (own : Party) (contacts : List Entry) (visibility : Visibility) (wind :
     -- and otherwise with 5 exactly if no trial on a shared side clears'
     pub some_side : answer ≡ Err Why.NoTrialClears → (side : Side) × Shared side
     pub no_trial : answer ≡ Err Why.NoTrialClears → (side : Side) (m : Float) → Shared side → Trial m → Clears side m → ⊥
-    pub «5_if» : (side : Side) × Shared side → ((side : Side) (m : Float) → Shared side → Trial m → Clears side m → ⊥) → answer ≡ Err Why.NoTrialClears
+    pub «5_if» : (side : Side) × Shared side → ((side : Side) (m : Float) → Shared side → Trial m → Clears side m → ⊥)
+        → answer ≡ Err Why.NoTrialClears
     -- 'in every other case it returns a trial …'
     pub otherwise : (answer ≡ Err Why.NoSharedSide → ⊥) → (answer ≡ Err Why.NoTrialClears → ⊥) → (m : RuledManoeuvre) × (answer ≡ Ok m)
     -- and whatever it returns is such a trial
     pub smallest : (m : RuledManoeuvre) → answer ≡ Ok m → Smallest m
 
-  -- 'whatever the own craft, contacts, visibility, wind, desired distance and constraints': the first bad argument decides, and with none bad the clauses hold
+  -- 'whatever the own craft, contacts, visibility, wind, desired distance and constraints': the
+  -- first bad argument decides, and with none bad the clauses hold
   pub record Demand3 (count : ℕ) (answer : Result RuledManoeuvre Refusal) : Type 0 where
     pub refused : (why : Refusal) → verdict (ruled_checks own count contacts wind desired c) (Ok tt) ≡ Err why → answer ≡ Err why
     pub accepted : verdict (ruled_checks own count contacts wind desired c) (Ok tt) ≡ (Ok tt) → OnAccepted answer

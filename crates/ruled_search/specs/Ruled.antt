@@ -1,7 +1,8 @@
--- The ruled search (01, 'Trial list': 'a side is permitted, or shared, if `rule_of_the_road` … permits it for every contact, standard config (both sides without contacts); the caller's own sides take no part; no seeds. All its contacts share own craft, visibility and wind').
+-- The ruled search (01, 'Trial list': 'a side is permitted, or shared, if `rule_of_the_road` …
+-- permits it for every contact, standard config (both sides without contacts); the caller's own
+-- sides take no part; no seeds. All its contacts share own craft, visibility and wind').
 use Rattle.std.specs.Prelude.{Bool, true, false, ◌&&◌, ◌||◌, cond, List, ◌++◌, map, ℕ, None, Some, Err, Ok}
 use Rattle.laws.specs.Fold.{fold}
-use Rattle.elementary.specs.Refusal.{number_of}
 use Rattle.elementary.specs.declared.error.Refusal.TheVariants as Why
 use Rattle.motion.specs.declared.units.Distance.{Distance}
 use Rattle.motion.specs.declared.vessel.Vessel.{Vessel}
@@ -51,11 +52,15 @@ join_sides own visibility wind s e = in_both s (sides_of own visibility wind e)
 unfoldable pub shared_sides : Party → Visibility → Option Direction → List Entry → BySide Bool
 shared_sides own visibility wind entries = fold (join_sides own visibility wind) either entries
 
--- ---- the checks: the count of contacts, own, entry by entry contact then target, wind, desired, constraints
+-- ---- the checks: the count of contacts, own, entry by entry contact then target, wind, desired,
+-- constraints
 unfoldable pub ruled_checks : Party → ℕ → List Entry → Option Direction → Distance → ManoeuvreConstraints → List Check
-ruled_checks own count entries wind desired c = count_checks count ++ (party_checks own ++ (contacts_checks entries ++ (optional_checks wind ++ (distance_checks desired ++ constraint_checks c))))
+ruled_checks own count entries wind desired c =
+    count_checks count
+    ++ (party_checks own ++ (contacts_checks entries ++ (optional_checks wind ++ (distance_checks desired ++ constraint_checks c))))
 
--- ---- the answer on accepted arguments: 13 where no side is shared, 5 where no trial on a shared side clears
+-- ---- the answer
+-- on accepted arguments: 13 where no side is shared, 5 where no trial on a shared side clears
 abbrev pub manoeuvre_of : Vessel → ManoeuvreConstraints → Chosen → RuledManoeuvre
 manoeuvre_of own c chosen = record {
   side = chosen.side;
@@ -84,15 +89,13 @@ ruled_if_accepted (Ok tt) a = a
 ruled_if_accepted (Err why) a = Err why
 
 unfoldable pub ruled_answer : Party → ℕ → List Entry → Visibility → Option Direction → Distance → ManoeuvreConstraints → Result RuledManoeuvre Refusal
-ruled_answer own count entries visibility wind desired c = ruled_if_accepted (verdict (ruled_checks own count entries wind desired c) (Ok tt)) (ruled own entries visibility wind desired c)
+ruled_answer own count entries visibility wind desired c =
+    ruled_if_accepted (verdict (ruled_checks own count entries wind desired c) (Ok tt))
+    (ruled own entries visibility wind desired c)
 
 -- ---- what is computed, from offsets and velocities; the same on accepted arguments
 unfoldable pub ruled_computed : Party → List Entry → Visibility → Option Direction → Distance → ManoeuvreConstraints → Result RuledManoeuvre Refusal
 ruled_computed own entries visibility wind desired c =
     let sides = shared_sides own visibility wind entries in
-    answered own.motion c sides (smallest own.motion (floor_of desired) (map moving (map target_of entries)) sides c.least_alteration.0 c.most_alteration.0)
-
--- document 01's number of an answer, 0 where it is answered
-abbrev pub ruled_number : Result RuledManoeuvre Refusal → ℕ
-ruled_number (Ok m) = 0
-ruled_number (Err why) = number_of why
+    answered own.motion c sides
+    (smallest own.motion (floor_of desired) (map moving (map target_of entries)) sides c.least_alteration.0 c.most_alteration.0)

@@ -1,5 +1,6 @@
-// The ruled search: the smallest trial that clears all traffic, on a side that the ruling on every contact permits. Its contract holds the
-// equation with its definition (specs/Ruled.antt) and the order's third demand, clause by clause (specs/Demand3.antt).
+// The ruled search: the smallest trial that clears all traffic, on a side that the ruling on every
+// contact permits. Its contract holds the equation with its definition (specs/Ruled.antt) and the
+// order's third demand, clause by clause (specs/Demand3.antt).
 #![tactic(auto)]
 
 pub mod shared_sides;
@@ -21,9 +22,10 @@ use motion::vessel::Vessel;
 use situation::check;
 use situation::party::Circumstances;
 
-// A trial that clears the traffic: the list that held it, its magnitude, the altered course, the time that the turn takes, the least passing
-// distance and whose it is. Apart from `manoeuvre::AvoidanceManoeuvre`, the Rust's, whose one signed alteration loses the side of a turn of 0:
-// here side and magnitude stand apart.
+// A trial that clears the traffic: the list that held it, its magnitude, the altered course, the
+// time that the turn takes, the least passing distance and whose it is. Apart from
+// `manoeuvre::AvoidanceManoeuvre`, the Rust's, whose one signed alteration loses the side of a turn
+// of 0: here side and magnitude stand apart.
 #[derive(Clone, Copy)]
 pub struct RuledManoeuvre {
     pub side: Side,
@@ -34,7 +36,8 @@ pub struct RuledManoeuvre {
     pub limiting: Option<usize>,
 }
 
-// The count of contacts, own craft, the contacts entry by entry, the wind, the desired distance, the constraints.
+// The count of contacts, own craft, the contacts entry by entry, the wind, the desired distance,
+// the constraints.
 fn check_arguments(
     around: Circumstances,
     t: &[Entry],
@@ -52,8 +55,8 @@ fn check_arguments(
     manoeuvre::constraints::check_constraints(c)
 }
 
-// What is said of a trial that was chosen. Apart from `avoid`'s of this name: `ruled` answers `RuledManoeuvre`, which says why it is a second
-// type, and `avoid` the Rust's.
+// What is said of a trial that was chosen. Apart from `avoid`'s of this name: `ruled` answers
+// `RuledManoeuvre`, which says why it is a second type, and `avoid` the Rust's.
 fn manoeuvre_of(own: Vessel, c: ManoeuvreConstraints, chosen: Chosen) -> RuledManoeuvre
     ensures { result ≡ Spec.manoeuvre_of own c chosen }
 {
@@ -83,15 +86,17 @@ fn chosen_answer(
         .ok_or(Refusal::NoTrialClears)
 }
 
-// The smallest trial that clears every contact, on a side that every contact's ruling permits, starboard of equal ones. Arguments are
-// checked in document 01's order; it refuses with 13 where no side is shared, then with 5 where no trial on a shared side clears.
+// The smallest trial that clears every contact, on a side that every contact's ruling permits,
+// starboard of equal ones. Arguments are checked in document 01's order; it refuses with 13 where
+// no side is shared, then with 5 where no trial on a shared side clears.
 pub fn ruled_search(
     around: Circumstances,
     t: &[Entry],
     desired: Distance,
     constraints: ManoeuvreConstraints,
 ) -> Result<RuledManoeuvre, Refusal>
-    ensures { (result ≡ Spec.ruled_answer around.own (length t.now) t.now around.visibility around.wind_from desired constraints) × Demand3 around.own t.now around.visibility around.wind_from desired constraints (length t.now) result }
+    ensures { (result ≡ Spec.ruled_answer around.own (length t.now) t.now around.visibility around.wind_from desired constraints)
+        × Demand3 around.own t.now around.visibility around.wind_from desired constraints (length t.now) result }
 {
     check_arguments(around, t, desired, constraints)?;
     let own = around.own.motion;

@@ -6,7 +6,7 @@ use mathlib.Core.List.{List, [], ◌∷◌, ◌++◌, map}
 use Prim.Native.Nat.{ℕ, ◌≤◌}
 use native.Mathlib.Omega.{arith}
 use lib.Dec.{leb, lit≤}
-use Rattle.elementary.specs.Refusal.{number_of}
+use Rattle.elementary.specs.Refusal.{answer_number, number_of}
 use Rattle.elementary.specs.declared.error.Refusal.TheVariants as Why
 use Rattle.std.specs.declared.option.Option.{Option}
 use Rattle.std.specs.declared.result.Result.{Result}
@@ -21,7 +21,7 @@ use Rattle.sheet_record.specs.declared.Row.{Row}
 use Rattle.sheet_record.specs.Record.{header_of, rows_of, readable}
 use Rattle.sheet.specs.Values.{party_of, optional_wind, wind_from, entry_of}
 use Rattle.sheet.specs.Sheet.{category_checks, code_checks, value_checks, if_readable, sheet_verdict}
-use Rattle.sheet.specs.Exactly.{few, known_rows, known, codes, values, number_in, Exactly}
+use Rattle.sheet.specs.Exactly.{few, known_rows, known, codes, values, Exactly}
 
 -- ---- the numbers of the values' checks
 abbrev Within : List Check → Type 0
@@ -32,12 +32,12 @@ within_both : (a b : List Check) → Within a → Within b → Within (a ++ b)
 within_both [] b w v = v
 within_both (c ∷ a) b w v = (w.0, within_both a b w.1 v)
 
-number_within : (cs : List Check) → Within cs → number_in (verdict cs (Ok tt)) ≤ 6
+number_within : (cs : List Check) → Within cs → answer_number (verdict cs (Ok tt)) ≤ 6
 unfolding verdict
 number_within [] w = lit≤ tt
 number_within (c ∷ cs) w = go c.good (number_within cs w.1)
   where
-    go : (b : Bool) → number_in (verdict cs (Ok tt)) ≤ 6 → number_in (cond b (verdict cs (Ok tt)) (Err c.why)) ≤ 6
+    go : (b : Bool) → answer_number (verdict cs (Ok tt)) ≤ 6 → answer_number (cond b (verdict cs (Ok tt)) (Err c.why)) ≤ 6
     go true later = later
     go false later = w.0
 
@@ -84,26 +84,26 @@ by_layout_lem true false v = refl
 by_layout_lem false f v = refl
 
 -- ---- which number has which reason
-module _ (v : Result (Unit {0}) Refusal) (small : number_in v ≤ 6) where
-  for_15 : (l f c : Bool) → number_in (in_order l f c v) ≡ 15 → l ≡ false
+module _ (v : Result (Unit {0}) Refusal) (small : answer_number v ≤ 6) where
+  for_15 : (l f c : Bool) → answer_number (in_order l f c v) ≡ 15 → l ≡ false
   for_15 true true true e = absurd (omega (arith, small, e))
   for_15 true true false e = absurd (omega (arith, e))
   for_15 true false c e = absurd (omega (arith, e))
   for_15 false f c e = refl
 
-  for_14 : (l f c : Bool) → number_in (in_order l f c v) ≡ 14 → (l ≡ true) × (f ≡ false)
+  for_14 : (l f c : Bool) → answer_number (in_order l f c v) ≡ 14 → (l ≡ true) × (f ≡ false)
   for_14 true true true e = absurd (omega (arith, small, e))
   for_14 true true false e = absurd (omega (arith, e))
   for_14 true false c e = (refl, refl)
   for_14 false f c e = absurd (omega (arith, e))
 
-  for_16 : (l f c : Bool) → number_in (in_order l f c v) ≡ 16 → (l ≡ true) × (f ≡ true) × (c ≡ false)
+  for_16 : (l f c : Bool) → answer_number (in_order l f c v) ≡ 16 → (l ≡ true) × (f ≡ true) × (c ≡ false)
   for_16 true true true e = absurd (omega (arith, small, e))
   for_16 true true false e = (refl, refl, refl)
   for_16 true false c e = absurd (omega (arith, e))
   for_16 false f c e = absurd (omega (arith, e))
 
-  for_0 : (l f c : Bool) → number_in (in_order l f c v) ≡ 0 → (l ≡ true) × (f ≡ true) × (c ≡ true) × (number_in v ≡ 0)
+  for_0 : (l f c : Bool) → answer_number (in_order l f c v) ≡ 0 → (l ≡ true) × (f ≡ true) × (c ≡ true) × (answer_number v ≡ 0)
   for_0 true true true e = (refl, refl, refl, e)
   for_0 true true false e = absurd (omega (arith, e))
   for_0 true false c e = absurd (omega (arith, e))
@@ -122,15 +122,15 @@ module _ (s : List ℕ) where
       ap (if_readable (readable s)) (verdict_joined (code_checks h rs) (value_checks h (map entry_of rs)) (Ok tt) ∙ codes_decide h rs (values s))
       ∙ by_layout_lem (layout s) (few s) (cond (codes s) (values s) (Err Why.UnknownCode))
 
-  small : number_in (values s) ≤ 6
+  small : answer_number (values s) ≤ 6
   small = number_within (value_checks h (map entry_of rs)) (values_within h rs)
 
   pub exactly : Exactly s
   exactly = record {
     order = in_order_lem;
     value_numbers = small;
-    is_15 = λ e. for_15 (values s) small (layout s) (few s) (codes s) (ap number_in (sym in_order_lem) ∙ e);
-    is_14 = λ e. for_14 (values s) small (layout s) (few s) (codes s) (ap number_in (sym in_order_lem) ∙ e);
-    is_16 = λ e. for_16 (values s) small (layout s) (few s) (codes s) (ap number_in (sym in_order_lem) ∙ e);
-    is_accepted = λ e. for_0 (values s) small (layout s) (few s) (codes s) (ap number_in (sym in_order_lem) ∙ e);
+    is_15 = λ e. for_15 (values s) small (layout s) (few s) (codes s) (ap answer_number (sym in_order_lem) ∙ e);
+    is_14 = λ e. for_14 (values s) small (layout s) (few s) (codes s) (ap answer_number (sym in_order_lem) ∙ e);
+    is_16 = λ e. for_16 (values s) small (layout s) (few s) (codes s) (ap answer_number (sym in_order_lem) ∙ e);
+    is_accepted = λ e. for_0 (values s) small (layout s) (few s) (codes s) (ap answer_number (sym in_order_lem) ∙ e);
   }

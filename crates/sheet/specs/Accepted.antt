@@ -1,4 +1,5 @@
--- Which values of 28 bits are accepted, in whole numbers of 1/1024: document 01's rows 1, 2 and 3 on a sheet's words, and request R-1's 'a wind of 360 or more gets number 1'.
+-- Which values of 28 bits are accepted, in whole numbers of 1/1024: document 01's rows 1, 2 and 3
+-- on a sheet's words, and request R-1's 'a wind of 360 or more gets number 1'.
 use Rattle.std.specs.Prelude.{◌≡◌, [], ◌∷◌, ℕ, ◌*◌, ltb, leb, Some}
 use Rattle.elementary.specs.declared.error.Refusal.TheVariants as Why
 use Rattle.motion.specs.Check.{check, is_direction, is_speed, is_distance}

@@ -1,4 +1,7 @@
--- Reading a sheet by document 01 alone ('Encounter sheet and its program'), without request R-1: nine words, then the contacts; no wind. The definitions are those of `sheet_words`, `sheet_record` and `sheet` as they stand there but for the wind, and say what 'as before' means in 'a sheet without the word reads and prints as before'.
+-- Reading a sheet by document 01 alone ('Encounter sheet and its program'), without request R-1:
+-- nine words, then the contacts; no wind. The definitions are those of `sheet_words`,
+-- `sheet_record` and `sheet` as they stand there but for the wind, and say what 'as before' means
+-- in 'a sheet without the word reads and prints as before'.
 use Rattle.std.specs.Prelude.{◌≡◌, Bool, true, false, ◌&&◌, cond, List, [], ◌∷◌, ◌++◌, map, ℕ, zero, suc, ◌+◌, ◌-◌, ◌*◌, ◌/◌, ◌%◌, min, eqb, leb, length, None, Err, Ok}
 use Rattle.elementary.specs.declared.error.Refusal.TheVariants as Why
 use Rattle.std.specs.declared.result.Result.{Result}
@@ -52,7 +55,9 @@ rows_of ws = first_rows ws (min (contact_count ws) max_contacts)
 -- ---- the checks
 unfoldable pub value_checks : Header → List Entry → List Check
 value_checks h es =
-    vessel_checks (own_of h).motion ++ (distance_checks (record { 0 = scaled h.desired }) ++ (alteration_checks (record { 0 = scaled h.least }) (record { 0 = scaled h.most })
+    vessel_checks (own_of h).motion
+    ++ (distance_checks (record { 0 = scaled h.desired })
+    ++ (alteration_checks (record { 0 = scaled h.least }) (record { 0 = scaled h.most })
     ++ (limit_checks h ++ contacts_checks es)))
 
 unfoldable pub sheet_verdict : List ℕ → Result (Unit {0}) Refusal
@@ -67,7 +72,8 @@ pub record ReadsAsBefore (s : List ℕ) : Type 0 where
   pub header : Record.header_of (words s) ≡ header_of (words s)
   pub rows : Record.rows_of (words s) ≡ rows_of (words s)
 
--- ---- one whose tenth word is of kind F was refused with 15: no sheet that had another answer has a new one
+-- ---- one whose tenth word is of kind F was refused with 15: no sheet that had another answer has
+-- a new one
 pub record Extends (s : List ℕ) : Type 0 where
   pub without : has_wind (words s) ≡ false → ReadsAsBefore s
   pub told : has_wind (words s) ≡ true → sheet_verdict s ≡ Err Why.Layout

@@ -1,6 +1,7 @@
--- When a sheet is refused, and with which number (01, 'Encounter sheet and its program': 'checks: 15, 14, 16, then values in sheet order').
+-- When a sheet is refused, and with which number (01, 'Encounter sheet and its program': 'checks:
+-- 15, 14, 16, then values in sheet order').
 use Rattle.std.specs.Prelude.{◌≡◌, Bool, true, false, ◌&&◌, cond, List, [], ◌∷◌, map, ℕ, ◌≤◌, leb, Err, Ok}
-use Rattle.elementary.specs.Refusal.{number_of}
+use Rattle.elementary.specs.Refusal.{answer_number}
 use Rattle.elementary.specs.declared.error.Refusal.TheVariants as Why
 use Rattle.std.specs.declared.result.Result.{Result}
 use Rattle.elementary.specs.declared.error.Refusal.{Refusal}
@@ -32,17 +33,13 @@ codes s = known (header_of (words s)) (rows_of (words s))
 abbrev pub values : List ℕ → Result (Unit {0}) Refusal
 values s = verdict (value_checks (header_of (words s)) (map entry_of (rows_of (words s)))) (Ok tt)
 
--- document 01's number, 0 where accepted
-abbrev pub number_in : Result (Unit {0}) Refusal → ℕ
-number_in (Ok tt) = 0
-number_in (Err why) = number_of why
-
 pub record Exactly (s : List ℕ) : Type 0 where
   -- in this order
-  pub order : sheet_verdict s ≡ cond (layout s) (cond (few s) (cond (codes s) (values s) (Err Why.UnknownCode)) (Err Why.TooManyContacts)) (Err Why.Layout)
+  pub order : sheet_verdict s
+      ≡ cond (layout s) (cond (few s) (cond (codes s) (values s) (Err Why.UnknownCode)) (Err Why.TooManyContacts)) (Err Why.Layout)
   -- the values have none of the numbers 14, 15 and 16, so that each of these has its own reason
-  pub value_numbers : number_in (values s) ≤ 6
-  pub is_15 : number_in (sheet_verdict s) ≡ 15 → layout s ≡ false
-  pub is_14 : number_in (sheet_verdict s) ≡ 14 → (layout s ≡ true) × (few s ≡ false)
-  pub is_16 : number_in (sheet_verdict s) ≡ 16 → (layout s ≡ true) × (few s ≡ true) × (codes s ≡ false)
-  pub is_accepted : number_in (sheet_verdict s) ≡ 0 → (layout s ≡ true) × (few s ≡ true) × (codes s ≡ true) × (number_in (values s) ≡ 0)
+  pub value_numbers : answer_number (values s) ≤ 6
+  pub is_15 : answer_number (sheet_verdict s) ≡ 15 → layout s ≡ false
+  pub is_14 : answer_number (sheet_verdict s) ≡ 14 → (layout s ≡ true) × (few s ≡ false)
+  pub is_16 : answer_number (sheet_verdict s) ≡ 16 → (layout s ≡ true) × (few s ≡ true) × (codes s ≡ false)
+  pub is_accepted : answer_number (sheet_verdict s) ≡ 0 → (layout s ≡ true) × (few s ≡ true) × (codes s ≡ true) × (answer_number (values s) ≡ 0)

@@ -1,4 +1,5 @@
--- What a sheet asks for: the limits of the assessment and of the turn, and the id of the contact at a place.
+-- What a sheet asks for: the limits of the assessment and of the turn, and the id of the contact at
+-- a place.
 use Rattle.std.specs.Prelude.{List, map, ℕ, get_or, None, Some}
 use Rattle.manoeuvre.specs.declared.constraints.ManoeuvreConstraints.{ManoeuvreConstraints}
 use Rattle.std.specs.declared.option.Option.{Option}

@@ -1,4 +1,5 @@
--- The checks of a sheet (01, 'Encounter sheet and its program': 'checks: 15, 14, 16, then values in sheet order'; R-1: 'a wind of 360 or more gets number 1').
+-- The checks of a sheet (01, 'Encounter sheet and its program': 'checks: 15, 14, 16, then values in
+-- sheet order'; R-1: 'a wind of 360 or more gets number 1').
 use Rattle.std.specs.Prelude.{List, [], ◌∷◌, ◌++◌, map, ℕ, leb, Err, Ok}
 use Rattle.math.specs.Clock.{is_accepted}
 use Rattle.elementary.specs.declared.error.Refusal.TheVariants as Why
@@ -25,11 +26,15 @@ code_checks h rs = check (leb h.category 7) Why.UnknownCode ∷ check (leb h.vis
 
 -- ---- values, in the sheet's order
 abbrev pub limit_checks : Header → List Check
-limit_checks h = check (is_distance (record { 0 = scaled h.cpa_limit })) Why.Distance ∷ check (is_accepted (record { secs = h.tcpa_limit; nanos = 0 })) Why.Time ∷ []
+limit_checks h =
+    check (is_distance (record { 0 = scaled h.cpa_limit })) Why.Distance
+    ∷ check (is_accepted (record { secs = h.tcpa_limit; nanos = 0 })) Why.Time ∷ []
 
 unfoldable pub value_checks : Header → List Entry → List Check
 value_checks h es =
-    vessel_checks (own_of h).motion ++ (distance_checks (record { 0 = scaled h.desired }) ++ (alteration_checks (record { 0 = scaled h.least }) (record { 0 = scaled h.most })
+    vessel_checks (own_of h).motion
+    ++ (distance_checks (record { 0 = scaled h.desired })
+    ++ (alteration_checks (record { 0 = scaled h.least }) (record { 0 = scaled h.most })
     ++ (limit_checks h ++ (optional_checks (wind_from h) ++ contacts_checks es))))
 
 -- ---- the sheet

@@ -1,4 +1,7 @@
--- What a sheet's numbers stand for (01, 'Encounter sheet and its program': 'angles, speeds, distances count 1/1024'; 'categories: 0 power, 1 sailing, tack unknown, 2 port tack, 3 starboard tack, 4 fishing, 5 draught, 6 restricted, 7 not under command'; 'visibility (0 in sight, 1 restricted)'; R-1: 'where the wind comes from, in 1/1024 degree').
+-- What a sheet's numbers stand for (01, 'Encounter sheet and its program': 'angles, speeds,
+-- distances count 1/1024'; 'categories: 0 power, 1 sailing, tack unknown, 2 port tack, 3 starboard
+-- tack, 4 fishing, 5 draught, 6 restricted, 7 not under command'; 'visibility (0 in sight, 1
+-- restricted)'; R-1: 'where the wind comes from, in 1/1024 degree').
 use Rattle.std.specs.Prelude.{ℕ, pos, from_bits, Float, None, Some}
 use Rattle.std.specs.Float.{binary64}
 use Rattle.std.specs.Float.Ieee.{of_int}

@@ -1,4 +1,5 @@
-// The checks of an encounter sheet, in document 01's order: layout (15), count (14), codes (16), then the values in the sheet's order.
+// The checks of an encounter sheet, in document 01's order: layout (15), count (14), codes (16),
+// then the values in the sheet's order.
 #![tactic(auto)]
 
 pub mod limits;
@@ -34,7 +35,8 @@ fn check_codes(h: Header, rows: &[Row]) -> Result<(), Refusal>
     check_categories(rows)
 }
 
-// Own craft, the desired distance, the least and the most alteration, the limits, the wind, and the contacts one by one.
+// Own craft, the desired distance, the least and the most alteration, the limits, the wind, and the
+// contacts one by one.
 fn check_values(h: Header, t: &[Entry]) -> Result<(), Refusal>
     ensures { result ≡ Check.checked (Spec.value_checks h t.now) }
 {

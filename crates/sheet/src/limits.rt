@@ -1,4 +1,5 @@
-// What a sheet asks for, as the module has it: the limits of the assessment and of the turn, and the id of the contact at a place.
+// What a sheet asks for, as the module has it: the limits of the assessment and of the turn, and
+// the id of the contact at a place.
 ghost use Rattle.std.specs.Prelude.{◌≡◌};
 ghost use Rattle.sheet.specs.Limits as Spec;
 

@@ -1,4 +1,5 @@
-// What the whole numbers of a sheet stand for: quantities in 1/1024, codes, own craft and the traffic.
+// What the whole numbers of a sheet stand for: quantities in 1/1024, codes, own craft and the
+// traffic.
 ghost use Rattle.std.specs.Prelude.{◌≡◌, map};
 ghost use Rattle.sheet.specs.Values as Spec;
 

@@ -13,7 +13,8 @@ use std::io::{self, Write};
 // Room for a sheet that is too long.
 const ROOM: usize = 4200;
 
-// What a digit is worth. By hand: the toolchain's `hex` refuses a line with what is no digit, on which this program printed a report before too.
+// What a digit is worth. By hand: the toolchain's `hex` refuses a line with what is no digit, on
+// which this program printed a report before too.
 fn digit(b: u8) -> u8
     ensures { result ≤ 15 }
 {

@@ -1,4 +1,7 @@
--- A sheet's record as its bytes (01, 'Encounter sheet and its program': 'little-endian 32-bit words; the top 4 bits are the kind, the low 28 the value', and their order; R-1: 'an optional word of kind F follows the TCPA limit'). The inverse of reading; of a value that is too large the low 28 bits are kept.
+-- A sheet's record as its bytes (01, 'Encounter sheet and its program': 'little-endian 32-bit
+-- words; the top 4 bits are the kind, the low 28 the value', and their order; R-1: 'an optional
+-- word of kind F follows the TCPA limit'). The inverse of reading; of a value that is too large the
+-- low 28 bits are kept.
 use mathlib.Core.List.{List, [], ◌∷◌, ◌++◌, flat_map}
 use Rattle.std.specs.Prelude.{ℕ, ◌+◌, ◌*◌, ◌/◌, ◌%◌, None, Some}
 use Rattle.std.specs.declared.option.Option.{Option}

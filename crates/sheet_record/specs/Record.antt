@@ -1,4 +1,5 @@
--- A sheet's words as a record of whole numbers (01, 'Encounter sheet and its program': the order of the words; 'checks: 15, 14, …'; R-1: 'the header record … gain[s] that wind').
+-- A sheet's words as a record of whole numbers (01, 'Encounter sheet and its program': the order of
+-- the words; 'checks: 15, 14, …'; R-1: 'the header record … gain[s] that wind').
 use Rattle.std.specs.Prelude.{cond, List, [], ◌∷◌, ◌++◌, ℕ, zero, suc, ◌+◌, ◌-◌, ◌*◌, ◌/◌, min, leb, length, get_or, take, drop, None, Some, Err, Ok}
 use Rattle.elementary.specs.declared.error.Refusal.TheVariants as Why
 use Rattle.motion.specs.Capacity.{max_contacts}

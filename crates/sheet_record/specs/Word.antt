@@ -1,4 +1,7 @@
--- A sheet's bytes as words (01, 'Encounter sheet and its program': 'little-endian 32-bit words; the top 4 bits are the kind, the low 28 the value. … Order, kinds in hexadecimal: 0 own course, … 8 TCPA limit (seconds); per contact 9 id, … E category'; 'at most 4,096 bytes (more: 15)'; R-1: 'an optional word of kind F follows the TCPA limit').
+-- A sheet's bytes as words (01, 'Encounter sheet and its program': 'little-endian 32-bit words; the
+-- top 4 bits are the kind, the low 28 the value. … Order, kinds in hexadecimal: 0 own course, … 8
+-- TCPA limit (seconds); per contact 9 id, … E category'; 'at most 4,096 bytes (more: 15)'; R-1: 'an
+-- optional word of kind F follows the TCPA limit').
 use Rattle.std.specs.Prelude.{Bool, ◌&&◌, cond, List, [], ◌∷◌, ℕ, ◌+◌, ◌*◌, ◌/◌, ◌%◌, eqb, ltb, leb, length, get_or, take, drop}
 use Rattle.sheet_record.specs.declared.word.Kind.{Kind}
 

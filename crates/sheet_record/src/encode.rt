@@ -1,4 +1,5 @@
-// A sheet's record as its bytes: the inverse of reading, for tests and tools. The round trip, both ways: sheet/proofs/Back.antt and Forth.antt.
+// A sheet's record as its bytes: the inverse of reading, for tests and tools. The round trip, both
+// ways: sheet/proofs/Back.antt and Forth.antt.
 #![tactic(auto, using(crate::proofs::EncodeCode::next_word, crate::proofs::EncodeCode::no_word, text::proofs::Appending::appended_twice), unfolding(crate::specs::Encode::header_words, crate::specs::Encode::row_words, crate::specs::Word::number))]
 
 ghost use Rattle.std.specs.Prelude.{◌≡◌, take};
@@ -52,7 +53,8 @@ impl Pieces<Row> for RowWords {
     }
 }
 
-// The bytes of a sheet that holds a header and rows, MAX_CONTACTS at most; of a value that is too large its low 28 bits.
+// The bytes of a sheet that holds a header and rows, MAX_CONTACTS at most; of a value that is too
+// large its low 28 bits.
 pub fn encode(h: Header, rows: &[Row]) -> Text
     ensures { result ≡ Spec.encode h (take max_contacts rows.now) }
 {

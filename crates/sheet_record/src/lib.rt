@@ -1,4 +1,5 @@
-// An encounter sheet as a record of whole numbers, as they stand in its words: the header and up to MAX_CONTACTS contacts.
+// An encounter sheet as a record of whole numbers, as they stand in its words: the header and up to
+// MAX_CONTACTS contacts.
 #![tactic(auto)]
 
 pub mod encode;
@@ -13,8 +14,8 @@ use arrayvec::ArrayVec;
 use elementary::error::Refusal;
 use motion::capacity::MAX_CONTACTS;
 
-// Angles, speeds and distances count 1/1024, the TCPA limit seconds. Categories and the visibility are numbers: a record has what the words
-// say, also what the checks refuse (number 16).
+// Angles, speeds and distances count 1/1024, the TCPA limit seconds. Categories and the visibility
+// are numbers: a record has what the words say, also what the checks refuse (number 16).
 #[derive(Clone, Copy)]
 pub struct Header {
     pub course: u32,
@@ -76,7 +77,8 @@ pub fn header_of(bytes: &[u8]) -> Header
 #[tactic(auto, using(crate::proofs::RecordCode::counted, crate::proofs::RecordCode::six_words))]
 fn contacts(bytes: &[u8]) -> &[[[u8; 4]; 6]]
     ensures count { length result.now ≡ Spec.contact_count (Words.words bytes.now) }
-    ensures words { (i : ℕ) → (other : List (List ℕ)) → i < length result.now → map (from_le_bytes w32) (get_or result.now i other) ≡ Spec.contact_at (Words.words bytes.now) i }
+    ensures words { (i : ℕ) → (other : List (List ℕ)) → i < length result.now
+        → map (from_le_bytes w32) (get_or result.now i other) ≡ Spec.contact_at (Words.words bytes.now) i }
 {
     let words = crate::word::words_of(bytes);
     let header = crate::word::header_length(bytes).min(words.len());

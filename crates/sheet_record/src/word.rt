@@ -1,4 +1,5 @@
-// An encounter sheet's bytes as words, and the order of their kinds (document 01, 'Encounter sheet and its program').
+// An encounter sheet's bytes as words, and the order of their kinds (document 01, 'Encounter sheet
+// and its program').
 ghost use Rattle.std.specs.Prelude.{◌≡◌, get_or, map, ◌≤◌};
 ghost use Rattle.std.specs.Int.{w32, from_le_bytes};
 ghost use Rattle.sheet_record.specs.Word as Spec;
@@ -50,15 +51,17 @@ pub(crate) fn words_of(bytes: &[u8]) -> &[[u8; 4]]
     words
 }
 
-// Word i of a sheet, 0 where there is none. Apart from `replay::word`, of words of eight bytes, which says why.
+// Word i of a sheet, 0 where there is none. Apart from `replay::word`, of words of eight bytes,
+// which says why.
 pub(crate) fn word_at(bytes: &[u8], i: usize) -> u32
     ensures { result ≡ get_or (Spec.words bytes.now) i 0 }
 {
     words_of(bytes).get(i).map_or(0, |w| u32::from_le_bytes(*w))
 }
 
-// The kind of a word, its top four bits. A kind that is read stays its number, as do those that follow: document 01 orders the words by it,
-// and an enum would want a table of sixteen arms back from the number.
+// The kind of a word, its top four bits. A kind that is read stays its number, as do those that
+// follow: document 01 orders the words by it, and an enum would want a table of sixteen arms back
+// from the number.
 pub fn kind_of(word: u32) -> u32
     ensures { result ≡ Spec.kind word }
 {
@@ -103,7 +106,8 @@ fn in_order(first: u32, words: &[[u8; 4]]) -> bool
     }) == Some(9)
 }
 
-// Whether the kinds of all words are in order: the header's, with the wind or without, and those of whole contacts.
+// Whether the kinds of all words are in order: the header's, with the wind or without, and those of
+// whole contacts.
 fn is_ordered(bytes: &[u8]) -> bool
     ensures { result ≡ Spec.ordered (Spec.words bytes.now) }
 {

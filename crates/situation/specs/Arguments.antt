@@ -1,4 +1,5 @@
--- The checks of a situation and of the widths (01, 'The answers by number': own, contact, target, wind, config; inside one in field order).
+-- The checks of a situation and of the widths (01, 'The answers by number': own, contact, target,
+-- wind, config; inside one in field order).
 use Rattle.std.specs.Prelude.{Bool, List, [], ◌∷◌, ◌++◌, Float, None, Some}
 use Rattle.std.specs.Float.{binary64}
 use Rattle.std.specs.Float.Ieee.{of_bits}

@@ -1,4 +1,6 @@
--- Categories and visibilities by number (01, 'Encounter sheet and its program': 'categories: 0 power, 1 sailing, tack unknown, 2 port tack, 3 starboard tack, 4 fishing, 5 draught, 6 restricted, 7 not under command'; 'visibility (0 in sight, 1 restricted)').
+-- Categories and visibilities by number (01, 'Encounter sheet and its program': 'categories: 0
+-- power, 1 sailing, tack unknown, 2 port tack, 3 starboard tack, 4 fishing, 5 draught, 6
+-- restricted, 7 not under command'; 'visibility (0 in sight, 1 restricted)').
 use Rattle.std.specs.Prelude.{ℕ, cond, ◌==◌}
 use Rattle.situation.specs.declared.party.Tack.TheVariants as Tack
 use Rattle.situation.specs.declared.party.VesselCategory.{VesselCategory}

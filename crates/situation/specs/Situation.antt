@@ -50,4 +50,8 @@ with_contact c contact target = record { own = c.own; target = target; contact =
 
 -- `ColregsConfig::STANDARD`: 22.5 and 6 degrees
 abbrev pub standard : ColregsConfig
-standard = record { overtaking_abaft_beam = record { 0 = of_bits binary64 0x4036_8000_0000_0000 }; head_on_half_width = record { 0 = of_bits binary64 0x4018_0000_0000_0000 } }
+standard =
+    record {
+      overtaking_abaft_beam = record { 0 = of_bits binary64 0x4036_8000_0000_0000 };
+      head_on_half_width = record { 0 = of_bits binary64 0x4018_0000_0000_0000 };
+    }

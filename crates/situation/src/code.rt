@@ -1,11 +1,13 @@
-// Categories and visibilities from the numbers that stand for them, in a sheet and in the C exports.
+// Categories and visibilities from the numbers that stand for them, in a sheet and in the C
+// exports.
 ghost use Rattle.std.specs.Prelude.{◌≡◌};
 ghost use Rattle.situation.specs.Codes as Spec;
 
 use crate::party::{Tack, VesselCategory, Visibility};
 
-// 0 power-driven, 1 to 3 sailing, on an unknown tack, the port tack and the starboard tack, 4 fishing, 5 constrained by her draught, 6 restricted
-// in her ability to manoeuvre; any other number is not under command.
+// 0 power-driven, 1 to 3 sailing, on an unknown tack, the port tack and the starboard tack, 4
+// fishing, 5 constrained by her draught, 6 restricted in her ability to manoeuvre; any other number
+// is not under command.
 impl From<u32> for VesselCategory {
     ghost from_gives = { λ code result. result ≡ Spec.category_of code };
 

@@ -5,8 +5,9 @@ ghost use Rattle.situation.specs.Situation as Spec;
 use motion::units::Direction;
 use motion::vessel::{Contact, Vessel};
 
-// The side of a sailing vessel that the wind is on.
-// Three values and no `Option<Side>`: Rule 12(a)(iii) names the unknown tack, and `sailing_vessels` of colregs matches on it beside the others.
+// The side of a sailing vessel that the wind is on. Three values and no `Option<Side>`: Rule
+// 12(a)(iii) names the unknown tack, and `sailing_vessels` of colregs matches on it beside the
+// others.
 #[derive(Clone, Copy)]
 pub enum Tack {
     Port,
@@ -48,8 +49,9 @@ pub struct Situation {
     pub wind_from: Option<Direction>,
 }
 
-// What the rulings on all contacts share: own craft, the visibility, and where the wind comes from if that is known. `Situation` has these fields
-// again and not one of this type: by the project's rule it holds what kinavis's has, in its order.
+// What the rulings on all contacts share: own craft, the visibility, and where the wind comes from
+// if that is known. `Situation` has these fields again and not one of this type: by the project's
+// rule it holds what kinavis's has, in its order.
 #[derive(Clone, Copy)]
 pub struct Circumstances {
     pub own: Party,
@@ -73,7 +75,8 @@ impl Circumstances {
 }
 
 impl VesselCategory {
-    // The rank of a category: of two, the lower one keeps out of the way. Written out: a derived order would rank sailing vessels by their tacks.
+    // The rank of a category: of two, the lower one keeps out of the way. Written out: a derived
+    // order would rank sailing vessels by their tacks.
     pub fn precedence(self) -> u8
         ensures { result ≡ Spec.precedence self }
     {

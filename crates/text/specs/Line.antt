@@ -1,4 +1,5 @@
--- The lines of document 01, 'Encounter sheet and its program': fields with a space between them, and a line feed after the last one.
+-- The lines of document 01, 'Encounter sheet and its program': fields with a space between them,
+-- and a line feed after the last one.
 use Rattle.std.specs.Prelude.{List, [], ◌∷◌, ◌++◌, ℕ}
 use Rattle.text.specs.Text.{bytes}
 

@@ -1,4 +1,5 @@
--- The text of document 01, 'Encounter sheet and its program', as it grows: a list of bytes within a fixed room.
+-- The text of document 01, 'Encounter sheet and its program', as it grows: a list of bytes within a
+-- fixed room.
 use Rattle.std.specs.Prelude.{List, [], ◌∷◌, ◌++◌, ℕ, take}
 use Prim.Native.Char.{code}
 use Prim.Native.String.{String, [] as nothing, ◌∷◌ as ◌before◌}

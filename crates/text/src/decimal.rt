@@ -1,5 +1,5 @@
-// A quantity with three decimals, as the encounter sheet's program prints it: the number of thousandths nearest to an f64, ties to even,
-// worked out in whole numbers on the float's digits.
+// A quantity with three decimals, as the encounter sheet's program prints it: the number of
+// thousandths nearest to an f64, ties to even, worked out in whole numbers on the float's digits.
 ghost use Rattle.std.specs.Prelude.{◌≡◌, true, false, ◌*◌, ◌^◌, ◌≤◌, ◌<◌, pos};
 ghost use Rattle.std.specs.Float.{fin};
 ghost use Rattle.std.specs.Float.Ieee.{lt};
@@ -28,7 +28,8 @@ fn nearest(n: u64, d: u64) -> u64
     }
 }
 
-// A quantity above 0 and below 2^53. Its thousandths are digits * 1000 / 2^(1074 - place), and none below the place 1011.
+// A quantity above 0 and below 2^53. Its thousandths are digits * 1000 / 2^(1074 - place), and none
+// below the place 1011.
 fn fraction(x: f64) -> u64
     requires { (lt (fin false 0 (pos 0)) x ≡ true) × (lt x (fin false 1 (pos 53)) ≡ true) }
     ensures { result ≡ thousandths_of x }
@@ -40,7 +41,8 @@ fn fraction(x: f64) -> u64
     nearest(digits * 1000, power_of_two(1074 - place))
 }
 
-// The thousandths nearest to a quantity, ties to even; those of 2^53 for anything from there on, and none for anything below 0.
+// The thousandths nearest to a quantity, ties to even; those of 2^53 for anything from there on,
+// and none for anything below 0.
 pub(crate) fn thousandths(x: f64) -> u64
     ensures { result ≡ thousandths_of x }
 {

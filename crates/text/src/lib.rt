@@ -1,5 +1,5 @@
-// Text that a program prints: bytes up to a fixed room, to which pieces are appended. What does not fit is cut, so that appending takes
-// every piece; whoever shows that a text fits has it whole.
+// Text that a program prints: bytes up to a fixed room, to which pieces are appended. What does not
+// fit is cut, so that appending takes every piece; whoever shows that a text fits has it whole.
 #![tactic(auto)]
 
 pub mod decimal;
@@ -67,8 +67,9 @@ impl Text {
         self.bytes.as_slice()
     }
 
-    // The bytes of s at the end. The words are byte strings, whose bytes document 01 fixes, and no `Display`: `write!` says what it wrote only where it
-    // answers `Ok`, and nowhere that it does, while a text takes every piece.
+    // The bytes of s at the end. The words are byte strings, whose bytes document 01 fixes, and no
+    // `Display`: `write!` says what it wrote only where it answers `Ok`, and nowhere that it does,
+    // while a text takes every piece.
     pub fn put(&mut self, s: &[u8])
         ensures { self.new ≡ appended self.old s.now }
     {

@@ -1,4 +1,5 @@
--- The sine and the cosine of any rational angle (01, "Sine, cosine"): the nearest multiple of half pi is removed, exactly, and Taylor's sum of what is left is taken with the sign of its quarter.
+-- The sine and the cosine of any rational angle (01, "Sine, cosine"): the nearest multiple of half
+-- pi is removed, exactly, and Taylor's sum of what is left is taken with the sign of its quarter.
 use Rattle.std.specs.Prelude.{Bool, ◌&&◌, cond, ℕ, ◌+◌, ◌*◌, ◌-◌, ◌/◌, ◌%◌, ◌≤◌, ◌<◌, leb, ltb, eqb}
 use Rattle.std.specs.Float.Ieee.{unlike}
 use Rattle.trigonometry.specs.Taylor.{sine_num, sine_den, cosine_num, cosine_den}
@@ -28,7 +29,8 @@ pub record Signed : Type 0 where
   pub top : ℕ
   pub bottom : ℕ
 
--- an angle of q half pis and a rest: by the sine of the rest where q is even, by its cosine where q is odd
+-- an angle of q half pis and a rest: by the sine of the rest where q is even, by its cosine where q
+-- is odd
 unfoldable pub even : ℕ → Bool
 even q = eqb (q % 2) 0
 
@@ -38,7 +40,12 @@ negative q below = unlike (leb 2 (q % 4)) (even q && below)
 
 -- the sine of q half pis and ± n / d
 unfoldable pub turned : ℕ → Bool → ℕ → ℕ → Signed
-turned q below n d = record { minus = negative q below; top = cond (even q) (sine_num n d) (cosine_num n d); bottom = cond (even q) (sine_den d) (cosine_den d) }
+turned q below n d =
+    record {
+      minus = negative q below;
+      top = cond (even q) (sine_num n d) (cosine_num n d);
+      bottom = cond (even q) (sine_den d) (cosine_den d);
+    }
 
 -- the sine of a / b and `more` half pis
 unfoldable pub reduced : ℕ → ℕ → ℕ → Signed

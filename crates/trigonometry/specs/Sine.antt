@@ -1,4 +1,6 @@
--- Sine and cosine (01, "Sine, cosine"; elementary.md, section 2): up to 16 radians either sign, by whole numbers of 2 ^ -58, and not a number outside. The answer is a multiple of 2 ^ -53; the sine of an angle below 2 ^ -17 is the angle.
+-- Sine and cosine (01, "Sine, cosine"; docs/ELEMENTARY.md): up to 16 radians either sign, by
+-- whole numbers of 2 ^ -58, and not a number outside. The answer is a multiple of 2 ^ -53; the sine
+-- of an angle below 2 ^ -17 is the angle.
 use Rattle.std.specs.Prelude.{◌≡◌, ℕ, ◌+◌, ◌*◌, ◌/◌, ◌^◌, ◌≤◌, Bool, cond, not, T, from_bits, Float}
 use Rattle.std.specs.Float.{nan, binary64}
 use Rattle.std.specs.Float.Ieee.{fits, round, lt, le, unlike}

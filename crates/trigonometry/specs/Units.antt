@@ -1,4 +1,5 @@
--- The sine and the cosine in whole units of 1 / S: each product and each coefficient cut to a whole number (elementary.md, sections 1 and 12). The code has S = 2 ^ 58.
+-- The sine and the cosine in whole units of 1 / S: each product and each coefficient cut to a whole
+-- number (docs/ELEMENTARY.md). The code has S = 2 ^ 58.
 use Rattle.std.specs.Prelude.{Bool, cond, List, [], ◌∷◌, ℕ, ◌+◌, ◌*◌, ◌-◌, ◌/◌, ◌^◌, ltb}
 use Rattle.trigonometry.specs.Taylor.{sine_divisors, cosine_divisors}
 use Rattle.trigonometry.specs.Angle.{half_pi, whole, distance, quarters, even, negative}

@@ -1,7 +1,8 @@
 // The sums behind the sine and the cosine, in whole units of 2^-58.
 //
-// Angles and values are numbers of units; ONE of them is 1. A product of two is exact up to the cut to a whole unit, the
-// coefficients are cut the same way, and Horner's rule has no division. The error of the sums is a few units: proofs/Values.
+// Angles and values are numbers of units; ONE of them is 1. A product of two is exact up to the cut
+// to a whole unit, the coefficients are cut the same way, and Horner's rule has no division. The
+// error of the sums is a few units: proofs/Values.
 ghost use Rattle.std.specs.Prelude.{◌≡◌, ◌*◌, ◌/◌, ◌-◌, ◌^◌, ◌≤◌, ◌<◌};
 ghost use Rattle.trigonometry.specs.Taylor.{sine_divisors, cosine_divisors};
 ghost use Rattle.trigonometry.specs.Units.{horner, sine_units, cosine_units};
@@ -12,8 +13,9 @@ pub const ONE: u64 = 288230376151711744;
 // 32 units, as an f64: 2^-53.
 pub const GRID: f64 = 1.1102230246251565e-16;
 
-// The product of a and b, cut to whole units. Units stay plain numbers, and `≤ 2 ^ 58` a clause: what is made of them are differences, halves
-// and quotients, each of which would be made a unit anew.
+// The product of a and b, cut to whole units. Units stay plain numbers, and `≤ 2 ^ 58` a clause:
+// what is made of them are differences, halves and quotients, each of which would be made a unit
+// anew.
 fn mul58(a: u64, b: u64) -> u64
     requires { (a ≤ 2 ^ 58) × (b ≤ 2 ^ 58) }
     ensures { (result ≡ a * b / 2 ^ 58) × (result ≤ b) }
@@ -39,10 +41,12 @@ fn step(z: u64, q: u64, c: u64) -> u64
     c - mul58(z, q)
 }
 
-// The two series stand written out: a loop over a table of coefficients would need its order, that none is above the next, as a clause
-// and an invariant, where each step here has it from its own two numbers.
+// The two series stand written out: a loop over a table of coefficients would need its order, that
+// none is above the next, as a clause and an invariant, where each step here has it from its own
+// two numbers.
 //
-// 1 - z / 3! + z^2 / 5! - ...: the coefficients are ONE / 19!, ONE / 17!, ...; ONE / 21! is no whole unit. 0 for a z above one.
+// 1 - z / 3! + z^2 / 5! - ...: the coefficients are ONE / 19!, ONE / 17!, ...; ONE / 21! is no
+// whole unit. 0 for a z above one.
 pub fn sine_series(z: u64) -> u64
     ensures { (z ≤ 2 ^ 58 → result ≡ horner (2 ^ 58) z 1 sine_divisors) × (2 ^ 58 < z → result ≡ 0) × (result ≤ 2 ^ 58) }
 {
