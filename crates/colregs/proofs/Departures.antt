@@ -1,6 +1,6 @@
 -- The inputs of docs/DIFFERENCES.md, 'The Rust against COLREGs', in its order, as rows that are computed from the definitions.
 use mathlib.Core.Path.{◌≡◌, refl}
-use mathlib.Core.Bool.{true, false}
+use mathlib.Core.Bool.{Bool, true, false, ◌&&◌, not}
 use mathlib.Core.List.{List, [], ◌∷◌}
 use lib.Ieee.{binary64, of_bits, of_int, round, add, sub, mul, div, neg, rem, lt, le, eq, size}
 use Rattle.laws.specs.Rows.{Row, every}
@@ -30,52 +30,63 @@ use Rattle.colregs.specs.declared.answer.Encounter.TheVariants.{Overtaking, Bein
 use Rattle.colregs.specs.declared.answer.Responsibility.TheVariants.{GiveWay, StandOn, Both, Undetermined}
 use Rattle.colregs.specs.declared.answer.Rule.TheVariants.{Rule12, Rule13, Rule14, Rule15, Rule17, Rule18, Rule19}
 use Rattle.colregs.specs.Colregs.{abaft, own_comes_up, target_comes_up, own_overtakes, target_overtakes, is_head_on, side_of, rule18, encounter_of, decided, forward_of_beam, rule19_starboard, rule19_port, rule17_port, permitted, ruling_for, ruling_of, ruling_answer}
+use Rattle.situation.specs.declared.party.Situation.{Situation}
+use Rattle.situation.specs.Situation.{standard}
+use Rattle.colregs.specs.Text.{terms, more_abaft, nearly_ahead, on_starboard, on_port, first_asked, text}
+use Rattle.colregs.specs.Departs.{asked, tests, Case, cases, applies, each_from_abaft, draught_over_power, draught_over_sail_and_fishing, command_over_restricted, two_of_another_category, not_closing, unknown_to_windward, either_tack, stand_on_not_to_port, ahead_or_astern, neither_to_starboard, astern_unseen, not_closing_unseen}
+use Rattle.colregs.proofs.Departing.{same}
 use Rattle.colregs.proofs.Rows.{a, power, heads, vessel, seen, unseen, wind, rules}
 
 unfoldable pub departures : List Row
 departures =
-    -- 12, 14, 15: no risk of collision
-    rules (seen (power 0 10) 45 5 (power 45 20)) (Crossing Starboard) GiveWay Rule15 true false true false
+    -- each from abaft the other's beam, from either side
+    rules (seen (heads 180 (power 0 5)) 0 2 (heads 0 (power 180 5))) BeingOvertaken StandOn Rule13 true true true true
+    ∷ rules (seen (heads 0 (power 180 5)) 180 2 (heads 180 (power 0 5))) BeingOvertaken StandOn Rule13 true true true true
+    -- draught over power, from either side; draught over fishing
+    ∷ rules (seen (a ConstrainedByDraught 0 10) 45 5 (power 270 10)) (Crossing Starboard) StandOn Rule18 true false true true
+    ∷ rules (seen (power 0 10) 315 5 (a ConstrainedByDraught 90 10)) (Crossing Port) GiveWay Rule18 true true true false
+    ∷ rules (seen (a ConstrainedByDraught 0 10) 45 5 (a Fishing 270 10)) (Crossing Starboard) StandOn Rule18 true false true true
+    -- not under command over restricted
+    ∷ rules (seen (a RestrictedInAbilityToManoeuvre 0 10) 45 5 (a NotUnderCommand 270 10)) (Crossing Starboard) GiveWay Rule18 true true true false
+    -- two fishing vessels, head-on and crossing
+    ∷ rules (seen (a Fishing 0 10) 0 5 (a Fishing 180 10)) HeadOn Both Rule14 true false true false
+    ∷ rules (seen (a Fishing 0 10) 45 5 (a Fishing 270 10)) (Crossing Starboard) GiveWay Rule15 true false true false
+    -- not closing: drawing apart, astern at the same speed, bow to bow
+    ∷ rules (seen (power 0 10) 45 5 (power 45 20)) (Crossing Starboard) GiveWay Rule15 true false true false
+    ∷ rules (seen (power 0 10) 0 2 (power 0 10)) (Crossing Port) StandOn Rule17 true false true true
+    ∷ rules (seen (heads 0 (power 180 5)) 0 2 (heads 180 (power 0 5))) HeadOn Both Rule14 true false true false
+    -- a tack unknown: to windward of the port tack; to leeward of it
+    ∷ rules (wind 270 (seen (a (Sailing Tack.Port) 0 5) 270 2 (a (Sailing Tack.Unknown) 45 5))) (Crossing Port) Undetermined Rule12 true true true false
+    ∷ rules (wind 90 (seen (a (Sailing Tack.Port) 0 5) 270 2 (a (Sailing Tack.Unknown) 45 5))) (Crossing Port) Undetermined Rule12 true true true false
+    -- not to port for a vessel to starboard
+    ∷ rules (seen (a Fishing 0 5) 45 5 (power 270 10)) (Crossing Starboard) StandOn Rule18 true false true true
+    -- right ahead
+    ∷ rules (seen (power 0 10) 0 5 (power 270 10)) (Crossing Starboard) GiveWay Rule15 true false true false
+    ∷ rules (seen (power 0 10) 0 5 (power 90 10)) (Crossing Port) StandOn Rule17 true false true true
+    -- each to port of the other
+    ∷ rules (seen (power 0 10) 315 5 (power 180 10)) (Crossing Port) StandOn Rule17 true false true true
+    -- restricted visibility: right astern; drawing apart
+    ∷ rules (unseen (power 0 10) 180 5 (power 0 12)) BeingOvertaken Both Rule19 false true true false
+    ∷ rules (unseen (power 0 10) 45 5 (power 45 20)) (Crossing Starboard) Both Rule19 true false true false
+    -- ---- outside the facts
     -- 12(a)(ii): at 90 degrees from the wind both stand on; the wind unknown
     ∷ rules (wind 0 (seen (a (Sailing Tack.Starboard) 0 5) 90 2 (a (Sailing Tack.Starboard) 0 5))) (Crossing Starboard) StandOn Rule12 true false true true
     ∷ rules (wind 0 (seen (a (Sailing Tack.Starboard) 0 5) 270 2 (a (Sailing Tack.Starboard) 0 5))) (Crossing Port) StandOn Rule12 true false true true
     ∷ rules (seen (a (Sailing Tack.Starboard) 0 5) 90 2 (a (Sailing Tack.Starboard) 0 5)) (Crossing Starboard) Undetermined Rule12 true true true false
-    -- 12(a)(iii): one to windward whose tack is unknown
-    ∷ rules (wind 270 (seen (a (Sailing Tack.Port) 0 5) 270 2 (a (Sailing Tack.Unknown) 0 5))) (Crossing Port) Undetermined Rule12 true true true false
-    -- 13(b): astern at the same speed; each astern of the other, from either side
-    ∷ rules (seen (power 0 10) 0 2 (power 0 10)) (Crossing Port) StandOn Rule17 true false true true
-    ∷ rules (seen (heads 180 (power 0 5)) 0 2 (heads 0 (power 180 5))) BeingOvertaken StandOn Rule13 true true true true
-    ∷ rules (seen (heads 0 (power 180 5)) 180 2 (heads 180 (power 0 5))) BeingOvertaken StandOn Rule13 true true true true
-    -- 13(c): exactly 22.5 degrees abaft the beam
+    -- 13(b), (c): exactly 22.5 degrees abaft the beam
     ∷ rules (seen (power 0 20) 0 5 (party (vessel (record { 0 = of_bits binary64 0x4050_e000_0000_0000 }) 10) PowerDriven)) (Crossing Port) StandOn Rule17 true false true true
     -- 13(d): overtaking, and later crossing
     ∷ rules (seen (power 0 20) 310 1 (power 0 10)) Overtaking GiveWay Rule13 true true true false
     ∷ rules (seen (power 0 20) 280 1 (power 0 10)) (Crossing Port) StandOn Rule17 true false true true
-    -- 14(a): two fishing vessels; an opening range
-    ∷ rules (seen (a Fishing 0 10) 0 5 (a Fishing 180 10)) HeadOn Both Rule14 true false true false
-    ∷ rules (seen (heads 0 (power 180 5)) 0 2 (heads 180 (power 0 5))) HeadOn Both Rule14 true false true false
     -- 14(b), (c): within 6 degrees, and over it
     ∷ rules (seen (power 0 10) 6 5 (power 180 10)) HeadOn Both Rule14 true false true false
     ∷ rules (seen (power 0 10) 6 5 (power 179 10)) (Crossing Starboard) GiveWay Rule15 true false true false
     ∷ rules (seen (power 0 10) 354 5 (power 167 10)) (Crossing Port) StandOn Rule17 true false true true
-    -- 15: two fishing vessels; dead ahead; not to port
-    ∷ rules (seen (a Fishing 0 10) 45 5 (a Fishing 270 10)) (Crossing Starboard) GiveWay Rule15 true false true false
-    ∷ rules (seen (power 0 10) 0 5 (power 90 10)) (Crossing Port) StandOn Rule17 true false true true
-    ∷ rules (seen (power 0 10) 0 5 (power 270 10)) (Crossing Starboard) GiveWay Rule15 true false true false
+    -- 15: not to port; 17(a), (b): starboard at once
     ∷ rules (seen (power 0 10) 45 5 (power 270 10)) (Crossing Starboard) GiveWay Rule15 true false true false
-    -- 17(a), (b): starboard at once; (c): any category, either side
     ∷ rules (seen (power 0 10) 315 5 (power 90 10)) (Crossing Port) StandOn Rule17 true false true true
-    ∷ rules (seen (a Fishing 0 5) 45 5 (power 270 10)) (Crossing Starboard) StandOn Rule18 true false true true
-    -- 18(d)(i): draught over power, from either side
-    ∷ rules (seen (a ConstrainedByDraught 0 10) 45 5 (power 270 10)) (Crossing Starboard) StandOn Rule18 true false true true
-    ∷ rules (seen (power 0 10) 315 5 (a ConstrainedByDraught 90 10)) (Crossing Port) GiveWay Rule18 true true true false
-    -- 18: draught over fishing; not under command over restricted; fishing
-    ∷ rules (seen (a ConstrainedByDraught 0 10) 45 5 (a Fishing 270 10)) (Crossing Starboard) StandOn Rule18 true false true true
-    ∷ rules (seen (a RestrictedInAbilityToManoeuvre 0 10) 45 5 (a NotUnderCommand 270 10)) (Crossing Starboard) GiveWay Rule18 true true true false
+    -- 18(c): fishing, of one not under command
     ∷ rules (seen (a Fishing 0 10) 45 5 (a NotUnderCommand 270 10)) (Crossing Starboard) GiveWay Rule18 true true true false
-    -- 19(d): at an opening range; dead astern
-    ∷ rules (unseen (power 0 10) 45 5 (power 45 20)) (Crossing Starboard) Both Rule19 true false true false
-    ∷ rules (unseen (power 0 10) 180 5 (power 0 12)) BeingOvertaken Both Rule19 false true true false
     -- the heading against the motion
     ∷ rules (seen (heads 90 (power 0 10)) 0 5 (power 180 10)) (Crossing Port) StandOn Rule17 true false true true
     ∷ []
@@ -83,3 +94,50 @@ departures =
 pub departures_hold : every departures ≡ true
 unfolding departures of_bits of_int round add sub mul div neg rem lt le eq size units_of degrees_per_radian to_radians to_degrees abs is_effectively_zero turned whole_fold half_fold hypot hypots.in_domain sqrt sine_divisors cosine_divisors distance quarters even negative horner square sine_units cosine_units removed rest turned_minus turned_units sin cos circular.in_domain circular.scaled circular.from_units in_range verdict is_direction is_speed is_distance unit resolved velocity party with_heading heading situation with_wind_from relative_of aspect_of larger speed_of range_rate is_closing geometry_of party_checks is_width situation_checks abaft own_comes_up target_comes_up own_overtakes target_overtakes is_head_on side_of rule18 encounter_of decided forward_of_beam rule19_starboard rule19_port rule17_port permitted ruling_for ruling_of ruling_answer
 departures_hold = refl
+
+-- ---- an example of each case, in which the ruling and the text differ
+pub record Example : Type 0 where
+  pub case : Case
+  pub situation : Situation
+
+abbrev of : Case → Situation → Example
+of case situation = record { case = case; situation = situation }
+
+unfoldable pub examples : List Example
+examples =
+    of each_from_abaft (seen (heads 180 (power 0 5)) 0 2 (heads 0 (power 180 5)))
+    ∷ of draught_over_power (seen (a ConstrainedByDraught 0 10) 45 5 (power 270 10))
+    ∷ of draught_over_sail_and_fishing (seen (a ConstrainedByDraught 0 10) 45 5 (a Fishing 270 10))
+    ∷ of command_over_restricted (seen (a RestrictedInAbilityToManoeuvre 0 10) 45 5 (a NotUnderCommand 270 10))
+    ∷ of two_of_another_category (seen (a Fishing 0 10) 45 5 (a Fishing 270 10))
+    ∷ of not_closing (seen (power 0 10) 45 5 (power 45 20))
+    ∷ of unknown_to_windward (wind 270 (seen (a (Sailing Tack.Port) 0 5) 270 2 (a (Sailing Tack.Unknown) 45 5)))
+    ∷ of either_tack (wind 90 (seen (a (Sailing Tack.Port) 0 5) 270 2 (a (Sailing Tack.Unknown) 45 5)))
+    ∷ of stand_on_not_to_port (seen (a Fishing 0 5) 45 5 (power 270 10))
+    ∷ of ahead_or_astern (seen (power 0 10) 0 5 (power 270 10))
+    ∷ of neither_to_starboard (seen (power 0 10) 315 5 (power 180 10))
+    ∷ of astern_unseen (unseen (power 0 10) 180 5 (power 0 12))
+    ∷ of not_closing_unseen (unseen (power 0 10) 45 5 (power 45 20))
+    ∷ []
+
+abbrev cases_of : List Example → List Case
+cases_of [] = []
+cases_of (e ∷ es) = e.case ∷ cases_of es
+
+-- no case is without one
+pub an_example_each : cases_of examples ≡ cases
+unfolding examples
+an_example_each = refl
+
+abbrev shows : Example → Bool
+shows e =
+    let f = geometry_of e.situation in
+    applies e.case standard f && not (same (asked (ruling_of standard f)) (text standard f))
+
+abbrev pub all_show : List Example → Bool
+all_show [] = true
+all_show (e ∷ es) = shows e && all_show es
+
+pub examples_differ : all_show examples ≡ true
+unfolding examples applies text first_asked terms tests more_abaft nearly_ahead on_starboard on_port of_bits of_int round add sub mul div neg rem lt le eq size units_of degrees_per_radian to_radians to_degrees abs is_effectively_zero turned whole_fold half_fold hypot hypots.in_domain sqrt sine_divisors cosine_divisors distance quarters even negative horner square sine_units cosine_units removed rest turned_minus turned_units sin cos circular.in_domain circular.scaled circular.from_units in_range verdict is_direction is_speed is_distance unit resolved velocity party with_heading heading situation with_wind_from relative_of aspect_of larger speed_of range_rate is_closing geometry_of party_checks is_width situation_checks abaft own_comes_up target_comes_up own_overtakes target_overtakes is_head_on side_of rule18 encounter_of decided forward_of_beam rule19_starboard rule19_port rule17_port permitted ruling_for ruling_of ruling_answer
+examples_differ = refl

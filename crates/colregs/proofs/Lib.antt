@@ -1,4 +1,5 @@
 -- Laws, and what code owes.
+pub mod Departing
 pub mod Departures
 pub mod Reliable
 pub mod ResponsibilityCode
