@@ -8,7 +8,8 @@ use mathlib.Core.List.{List, [], ◌∷◌, ◌++◌, Memᴰ, append_assoc, appe
 use Prim.Native.Nat.{ℕ, ◌≤◌, ◌<◌}
 use native.Mathlib.Nat.{le_refl}
 use native.Mathlib.Omega.{arith}
-use lib.Dec.{T, ltb, eqb, eqb→eq, ltb→lt, lt→ltb}
+use lib.Dec.{T, ltb, eqb, eqb→eq, ltb→lt, nltb→le}
+use Rattle.std.proofs.Math.Arith.{le→nltb}
 use lib.Ieee.Fits.{eq→eqb}
 use Rattle.std.specs.Prelude.{None, Some}
 use Rattle.std.specs.declared.option.Option.{Option}
@@ -24,24 +25,6 @@ use Rattle.assessment.specs.Target.{outranks, time_of}
 use Rattle.assessment.specs.Picture.{keep, most_dangerous}
 use Rattle.assessment.specs.MostDangerous.{risk_rank, time_left, Dangerous, MostDangerous}
 
--- ---- tests of whole numbers that fail
-at_least : (m n : ℕ) → T (not (ltb m n)) → n ≤ m
-at_least m n = go (ltb m n) (lt→ltb m n)
-  where
-    go : (b : Bool) → (m < n → T b) → T (not b) → n ≤ m
-    go true f h = elim h [ ]
-    go false f h = omega (arith, f)
-
-not_below : (m n : ℕ) → n ≤ m → T (not (ltb m n))
-not_below m n h = go (ltb m n) (ltb→lt m n)
-  where
-    go : (b : Bool) → (T b → m < n) → T (not b)
-    go true f = absurd (clash (f tt))
-      where
-        clash : m < n → ⊥
-        clash k = omega (arith, h, k)
-    go false f = tt
-
 -- ---- a time that is not before another
 abbrev NoLater : Duration → Duration → Type 0
 NoLater b a = (b.secs < a.secs) ⊎ ((b.secs ≡ a.secs) × (b.nanos ≤ a.nanos))
@@ -51,8 +34,8 @@ unfolding is_before
 told a b = go (eqb a.secs b.secs) (eqb→eq a.secs b.secs) (λ e. eq→eqb e)
   where
     go : (c : Bool) → (T c → a.secs ≡ b.secs) → (a.secs ≡ b.secs → T c) → T (not (cond c (ltb a.nanos b.nanos) (ltb a.secs b.secs))) → NoLater b a
-    go true f g h = inr (sym (f tt), at_least a.nanos b.nanos h)
-    go false f g h = inl (omega (arith, g, at_least a.secs b.secs h))
+    go true f g h = inr (sym (f tt), nltb→le a.nanos b.nanos h)
+    go false f g h = inl (omega (arith, g, nltb→le a.secs b.secs h))
 
 tell : (a b : Duration) → NoLater b a → T (not (is_before a b))
 unfolding is_before
@@ -63,8 +46,8 @@ tell a b = go (eqb a.secs b.secs) (eqb→eq a.secs b.secs) (λ e. eq→eqb e)
       where
         clash : a.secs ≡ b.secs → ⊥
         clash e = omega (arith, e, p)
-    go true f g (inr p) = not_below a.nanos b.nanos p.1
-    go false f g (inl p) = not_below a.secs b.secs (omega (arith, p))
+    go true f g (inr p) = le→nltb a.nanos b.nanos p.1
+    go false f g (inl p) = le→nltb a.secs b.secs (omega (arith, p))
     go false f g (inr p) = elim (g (sym p.0)) [ ]
 
 earlier : (a b : Duration) → T (is_before a b) → NoLater a b
@@ -106,7 +89,7 @@ module _ (a b : CollisionAssessment) where
     where
       go : (c : Bool) → (T c → higher ≡ lower) → (higher ≡ lower → T c) → T (not (cond c sooner (ltb lower higher))) → (higher < lower) ⊎ ((higher ≡ lower) × T (not sooner))
       go true f g h = inr (f tt, h)
-      go false f g h = inl (omega (arith, g, at_least lower higher h))
+      go false f g h = inl (omega (arith, g, nltb→le lower higher h))
 
 -- ---- one target more
 module _ (ts : List TargetAssessment) (b e : TargetAssessment) (h : Dangerous ts b) where
@@ -118,7 +101,10 @@ module _ (ts : List TargetAssessment) (b e : TargetAssessment) (h : Dangerous ts
         after = h.after ++ (e ∷ []);
         member = ap (λ l. l ++ (e ∷ [])) h.member ∙ append_assoc h.before (b ∷ h.after) (e ∷ []);
         highest_risk = λ x m. ⊎_elim (λ p. h.highest_risk x p) (λ q. subst (λ x. risk_rank x ≤ risk_rank b) (sym q) (at_most r)) (mem_last ts e m);
-        least_time = λ x m k. ⊎_elim (λ p. h.least_time x p k) (λ q. subst (λ x. T (not (is_before (time_left x) (time_left b)))) (sym q) (tell (time_left e) (time_left b) (earlier (time_left b) (time_left e) (then r (ap risk_rank (sym q) ∙ k))))) (mem_last ts e m);
+        least_time = λ x m k. ⊎_elim (λ p. h.least_time x p k)
+            (λ q. subst (λ x. T (not (is_before (time_left x) (time_left b)))) (sym q)
+            (tell (time_left e) (time_left b) (earlier (time_left b) (time_left e) (then r (ap risk_rank (sym q) ∙ k)))))
+            (mem_last ts e m);
         last_listed = λ x m k. ⊎_elim (λ p. h.last_listed x p k) (λ q. subst (λ x. T (is_before (time_left b) (time_left x))) (sym q) (then r (ap risk_rank (sym q) ∙ k))) (mem_last h.after e m);
       }
     where

@@ -77,7 +77,9 @@ module _ (range : Float) (position relative : Components) (r : Small 14 0 range)
   square = subst (λ s. Product squared s units units) (same (sign range)) (product range range (sign range) (sign range) units units (units_small r) (units_small r) (le_trans (mul-le-mul units_top units_top) (lit≤ tt)))
 
   -- K is 2 ^ 536, L is 2 ^ 1074
-  bound : (a r g K L : ℕ) → L ≡ 4 * (K * K) → 0 < K → 0 < g → a ≤ 2 ^ 12 * r → 2 * (2 ^ 53 * (g * L)) ≤ 2 * (2 ^ 53 + 1) * (r * r) + 2 ^ 53 * L → 2 * (2 ^ 53 * (r * r)) ≤ 2 * (2 ^ 53 * (g * L)) + 2 * (r * r) + 2 ^ 53 * L → a ≤ 2 ^ 15 * K * g
+  bound : (a r g K L : ℕ) → L ≡ 4 * (K * K) → 0 < K → 0 < g → a ≤ 2 ^ 12 * r
+      → 2 * (2 ^ 53 * (g * L)) ≤ 2 * (2 ^ 53 + 1) * (r * r) + 2 ^ 53 * L
+      → 2 * (2 ^ 53 * (r * r)) ≤ 2 * (2 ^ 53 * (g * L)) + 2 * (r * r) + 2 ^ 53 * L → a ≤ 2 ^ 15 * K * g
   bound a r g K L e k p h over under = last (le_of_mul-le-mul_right {k = K} (narrow (mul-le-mul_right r few)) k)
     where
       one : L ≤ g * L

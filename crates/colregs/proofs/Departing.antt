@@ -2,6 +2,7 @@
 -- where a case holds the ruling is what the case says (`instead_is`). The facts enter as tests, true
 -- or false, and both are found by trying all of these. The one fact on floats: where the contact is
 -- beside the line of own course, one and only one of the tests of her side holds.
+use Rattle.std.specs.List.{list_all, list_any}
 use mathlib.Core.Path.{◌≡◌, refl, sym, ap, ◌∙◌, subst}
 use mathlib.Core.Bool.{Bool, true, false, ◌&&◌, ◌||◌, not, cond, beq}
 use Prim.Native.Nat.{ℕ, zero, suc, ◌*◌}
@@ -208,26 +209,18 @@ is_same a b h =
     ∙ ap (λ s. asks b.duty b.starboard s) (is_same_bool a.port b.port (and_r (same_bool a.starboard b.starboard) _ sides))
 
 -- ---- some case, and every case, of a list
-abbrev some : (Case → Bool) → List Case → Bool
-some P [] = false
-some P (k ∷ ks) = P k || some P ks
-
 pub record Found (P : Case → Bool) (ks : List Case) : Type 0 where
   pub case : Case
   pub listed : Memᴰ case ks
   pub holds : T (P case)
 
-found : (P : Case → Bool) (ks : List Case) → T (some P ks) → Found P ks
+found : (P : Case → Bool) (ks : List Case) → T (list_any P ks) → Found P ks
 found P [] h = elim h [ ]
 found P (k ∷ ks) h =
-    or_elim (P k) (some P ks) (λ t. record { case = k; listed = Memᴰ.head refl; holds = t })
+    or_elim (P k) (list_any P ks) (λ t. record { case = k; listed = Memᴰ.head refl; holds = t })
     (λ t. let o = found P ks t in record { case = o.case; listed = Memᴰ.tail o.listed; holds = o.holds }) h
 
-abbrev every : (Case → Bool) → List Case → Bool
-every P [] = true
-every P (k ∷ ks) = P k && every P ks
-
-every_holds : (P : Case → Bool) (ks : List Case) → T (every P ks) → (k : Case) → Memᴰ k ks → T (P k)
+every_holds : (P : Case → Bool) (ks : List Case) → T (list_all P ks) → (k : Case) → Memᴰ k ks → T (P k)
 every_holds P [] h k m = elim m [ ]
 every_holds P (j ∷ ks) h k (Memᴰ.head e) = subst (λ k. T (P k)) (sym e) (and_l (P j) _ h)
 every_holds P (j ∷ ks) h k (Memᴰ.tail m) = every_holds P ks (and_r (P j) _ h) k m
@@ -235,13 +228,13 @@ every_holds P (j ∷ ks) h k (Memᴰ.tail m) = every_holds P ks (and_r (P j) _ h
 -- ---- both theorems over terms and tests: the text or a case, and what the ruling says in each case
 abbrev settled : Visibility → VesselCategory → VesselCategory → Windward → Terms → Tests → Bool
 settled v own other w t x =
-    same (ruled own other w t x v) (first_asked (paragraphs v own other w t)) || some (λ k. k.condition v own other w t x) cases
+    same (ruled own other w t x v) (first_asked (paragraphs v own other w t)) || list_any (λ k. k.condition v own other w t x) cases
 
 abbrev follows : Visibility → VesselCategory → VesselCategory → Windward → Terms → Tests → Case → Bool
 follows v own other w t x k = not (k.condition v own other w t x) || same (ruled own other w t x v) (k.instead v own other w t x)
 
 abbrev good : Visibility → VesselCategory → VesselCategory → Windward → Terms → Tests → Bool
-good v own other w t x = settled v own other w t x && every (follows v own other w t x) cases
+good v own other w t x = settled v own other w t x && list_all (follows v own other w t x) cases
 
 abbrev terms_by : Bool → Bool → Bool → Bool → Bool → Bool → Bool → Bool → Terms
 terms_by c o d a s p q f = record { closing = c; overtaking = o; overtaken = d; ahead = a; to_starboard = s; to_port = p; from_starboard = q; forward = f }
@@ -430,7 +423,7 @@ module _ (config : ColregsConfig) (f : Geometry) (number : T (not (is_nan f.rela
       follow : Case → Bool
       follow k = follows f.visibility f.own f.target f.windward (terms config f) (tests f) k
 
-      each : T (every follow cases)
+      each : T (list_all follow cases)
       each = and_r (settled f.visibility f.own f.target f.windward (terms config f) (tests f)) _ all_good
 
       given : (a b : Bool) → T a → T (not a || b) → T b

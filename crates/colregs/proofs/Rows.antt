@@ -20,12 +20,12 @@ use Rattle.motion.specs.declared.side.Side.TheVariants.{Port, Starboard}
 use Rattle.colregs.specs.declared.answer.Encounter.{Encounter}
 use Rattle.colregs.specs.declared.answer.Encounter.TheVariants.{Overtaking, BeingOvertaken, HeadOn, Crossing}
 use Rattle.colregs.specs.declared.answer.Responsibility.{Responsibility}
-use Rattle.colregs.specs.declared.answer.Responsibility.TheVariants.{GiveWay, StandOn, Both, Undetermined}
 use Rattle.colregs.specs.declared.answer.Rule.{Rule}
 use Rattle.colregs.specs.declared.answer.Ruling.{Ruling}
 use Rattle.std.specs.declared.result.Result.{Result}
 use Rattle.elementary.specs.declared.error.Refusal.{Refusal}
 use Rattle.colregs.specs.Ruling.{rule_number}
+use Rattle.colregs.specs.Text as Text
 use Rattle.colregs.specs.Colregs.{ruling_answer}
 
 -- ---- situations, in whole degrees, knots and nautical miles
@@ -69,19 +69,13 @@ encounter_code HeadOn = 2
 encounter_code (Crossing Port) = 3
 encounter_code (Crossing Starboard) = 4
 
-abbrev duty_code : Responsibility → ℕ
-duty_code GiveWay = 0
-duty_code StandOn = 1
-duty_code Both = 2
-duty_code Undetermined = 3
-
 abbrev bit : Bool → ℕ
 bit true = 1
 bit false = 0
 
 abbrev code : Encounter → Responsibility → Rule → Bool → Bool → Bool → Bool → ℕ
 code e duty rule starboard port slow_down hold =
-    10000000 + (((((encounter_code e * 10 + duty_code duty) * 100 + rule_number rule) * 10 + bit starboard) * 10 + bit port) * 10 + bit slow_down) * 10 + bit hold
+    10000000 + (((((encounter_code e * 10 + Text.code duty) * 100 + rule_number rule) * 10 + bit starboard) * 10 + bit port) * 10 + bit slow_down) * 10 + bit hold
 
 abbrev code_of : Result Ruling Refusal → ℕ
 code_of (Ok r) = code r.encounter r.responsibility r.rule r.manoeuvre.starboard r.manoeuvre.port r.manoeuvre.slow_down r.manoeuvre.hold

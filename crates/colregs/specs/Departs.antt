@@ -1,7 +1,7 @@
 -- The ways in which the Rust's ruling departs from the rules' text (Text.antt): a closed list of cases,
 -- each with its condition over the facts and with what the ruling says instead. There is no other:
 -- proofs/Departing.antt, `by_text_or_departs`. docs/DIFFERENCES.md has the cases in this order.
-use Rattle.std.specs.Prelude.{Bool, true, false, ◌&&◌, ◌||◌, not, cond, eqb, T}
+use Rattle.std.specs.Prelude.{Bool, true, false, ◌&&◌, ◌||◌, not, cond, ℕ, eqb, T}
 use mathlib.Core.List.{List, [], ◌∷◌, Memᴰ}
 use Rattle.std.specs.Float.Ieee.{lt}
 use Rattle.math.specs.Sign.{abs}
@@ -45,53 +45,31 @@ tests f = record {
 }
 
 -- ---- pairs of categories
-abbrev pub is_sailing : VesselCategory → Bool
-is_sailing (Sailing tack) = true
-is_sailing PowerDriven = false
-is_sailing Fishing = false
-is_sailing ConstrainedByDraught = false
-is_sailing RestrictedInAbilityToManoeuvre = false
-is_sailing NotUnderCommand = false
-
-abbrev pub is_draught : VesselCategory → Bool
-is_draught ConstrainedByDraught = true
-is_draught PowerDriven = false
-is_draught (Sailing tack) = false
-is_draught Fishing = false
-is_draught RestrictedInAbilityToManoeuvre = false
-is_draught NotUnderCommand = false
+abbrev pub category_number : VesselCategory → ℕ
+category_number PowerDriven = 0
+category_number (Sailing tack) = 1
+category_number Fishing = 2
+category_number ConstrainedByDraught = 3
+category_number RestrictedInAbilityToManoeuvre = 4
+category_number NotUnderCommand = 5
 
 abbrev pub is_power : VesselCategory → Bool
-is_power PowerDriven = true
-is_power ConstrainedByDraught = false
-is_power (Sailing tack) = false
-is_power Fishing = false
-is_power RestrictedInAbilityToManoeuvre = false
-is_power NotUnderCommand = false
+is_power c = eqb (category_number c) 0
+
+abbrev pub is_sailing : VesselCategory → Bool
+is_sailing c = eqb (category_number c) 1
 
 abbrev pub is_fishing : VesselCategory → Bool
-is_fishing Fishing = true
-is_fishing PowerDriven = false
-is_fishing ConstrainedByDraught = false
-is_fishing (Sailing tack) = false
-is_fishing RestrictedInAbilityToManoeuvre = false
-is_fishing NotUnderCommand = false
+is_fishing c = eqb (category_number c) 2
+
+abbrev pub is_draught : VesselCategory → Bool
+is_draught c = eqb (category_number c) 3
 
 abbrev pub is_restricted : VesselCategory → Bool
-is_restricted RestrictedInAbilityToManoeuvre = true
-is_restricted PowerDriven = false
-is_restricted ConstrainedByDraught = false
-is_restricted (Sailing tack) = false
-is_restricted Fishing = false
-is_restricted NotUnderCommand = false
+is_restricted c = eqb (category_number c) 4
 
 abbrev pub is_out_of_command : VesselCategory → Bool
-is_out_of_command NotUnderCommand = true
-is_out_of_command PowerDriven = false
-is_out_of_command ConstrainedByDraught = false
-is_out_of_command (Sailing tack) = false
-is_out_of_command Fishing = false
-is_out_of_command RestrictedInAbilityToManoeuvre = false
+is_out_of_command c = eqb (category_number c) 5
 
 -- one of them, in either order
 abbrev pub one_of_each : (VesselCategory → Bool) → (VesselCategory → Bool) → VesselCategory → VesselCategory → Bool
