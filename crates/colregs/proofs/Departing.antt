@@ -25,7 +25,7 @@ use Rattle.situation.specs.declared.party.Visibility.TheVariants.{InSight, Restr
 use Rattle.situation.specs.declared.party.VesselCategory.{VesselCategory}
 use Rattle.situation.specs.declared.party.VesselCategory.TheVariants.{PowerDriven, Sailing, Fishing, ConstrainedByDraught, RestrictedInAbilityToManoeuvre, NotUnderCommand}
 use Rattle.situation.specs.declared.config.ColregsConfig.{ColregsConfig}
-use Rattle.colregs.specs.declared.geometry.Windward.{Windward}
+use Rattle.colregs.specs.declared.geometry.Wind.{Wind}
 use Rattle.colregs.specs.declared.geometry.Geometry.{Geometry}
 use Rattle.motion.specs.declared.side.Side.TheVariants.{Port, Starboard}
 use Rattle.colregs.specs.declared.answer.Encounter.{Encounter}
@@ -37,10 +37,11 @@ use Rattle.colregs.specs.declared.answer.Rule.{Rule}
 use Rattle.colregs.specs.declared.answer.Rule.TheVariants.{Rule12, Rule13, Rule14, Rule15, Rule17, Rule18, Rule19}
 use Rattle.colregs.specs.Colregs.{dead_ahead, to_starboard, abaft, own_comes_up, target_comes_up, own_overtakes, target_overtakes, is_head_on, side_of, encounter_of, rule13, rule18, rule19, clause, ranks_first, clauses, decided, permitted, forward_of_beam, is_overtaking, is_crossing, is_stand_on, permits_starboard, permits_port, rule19_starboard, rule19_port, rule17_port, ruling_for, ruling_of}
 use Rattle.colregs.specs.Text.{Terms, terms, more_abaft, nearly_ahead, on_starboard, on_port, Asks, asks, code, paragraphs, first_asked, text}
+use Rattle.colregs.proofs.Trying.{all, always, all_pairs, any_pair}
 use Rattle.colregs.specs.Departs.{asked, Tests, tests, Case, cases, applies, instead, Departs}
 
 -- ---- the ruling over terms and tests
-module _ (own other : VesselCategory) (w : Windward) (t : Terms) (x : Tests) where
+module _ (own other : VesselCategory) (w : Wind) (t : Terms) (x : Tests) where
   abbrev overtakes : Bool
   overtakes = t.overtaking && (not t.overtaken || x.faster)
 
@@ -72,7 +73,7 @@ module _ (own other : VesselCategory) (w : Windward) (t : Terms) (x : Tests) whe
   ruled v = asks (decision v).responsibility (to_starboard_by (decision v).rule) (to_port_by (decision v).rule (decision v).responsibility)
 
 module _ (config : ColregsConfig) (f : Geometry) where
-  here_starboard : (r : Rule) → permits_starboard r f.relative ≡ to_starboard_by f.own f.target f.windward (terms config f) (tests f) r
+  here_starboard : (r : Rule) → permits_starboard r f.relative ≡ to_starboard_by f.own f.target f.wind (terms config f) (tests f) r
   unfolding terms tests rule19_starboard forward_of_beam
   here_starboard Rule12 = refl
   here_starboard Rule13 = refl
@@ -82,7 +83,7 @@ module _ (config : ColregsConfig) (f : Geometry) where
   here_starboard Rule18 = refl
   here_starboard Rule19 = refl
 
-  here_port : (r : Rule) (duty : Responsibility) → permits_port r (encounter_of config f) duty f.relative ≡ to_port_by f.own f.target f.windward (terms config f) (tests f) r duty
+  here_port : (r : Rule) (duty : Responsibility) → permits_port r (encounter_of config f) duty f.relative ≡ to_port_by f.own f.target f.wind (terms config f) (tests f) r duty
   unfolding terms tests rule19_port rule17_port forward_of_beam encounter_of own_overtakes target_overtakes own_comes_up target_comes_up abaft more_abaft is_head_on nearly_ahead side_of
   here_port Rule12 duty = refl
   here_port Rule13 duty = refl
@@ -92,82 +93,17 @@ module _ (config : ColregsConfig) (f : Geometry) where
   here_port Rule18 duty = refl
   here_port Rule19 duty = refl
 
-  here_decided : decided (clauses (encounter_of config f) f) ≡ decision f.own f.target f.windward (terms config f) (tests f) f.visibility
+  here_decided : decided (clauses (encounter_of config f) f) ≡ decision f.own f.target f.wind (terms config f) (tests f) f.visibility
   unfolding terms tests encounter_of own_overtakes target_overtakes own_comes_up target_comes_up abaft more_abaft is_head_on nearly_ahead side_of
   here_decided = refl
 
-  pub ruled_is : asked (ruling_of config f) ≡ ruled f.own f.target f.windward (terms config f) (tests f) f.visibility
+  pub ruled_is : asked (ruling_of config f) ≡ ruled f.own f.target f.wind (terms config f) (tests f) f.visibility
   unfolding ruling_of ruling_for permitted
   ruled_is =
       let d = decided (clauses (encounter_of config f) f) in
       ap (λ b. asks d.responsibility b (permits_port d.rule (encounter_of config f) d.responsibility f.relative)) (here_starboard d.rule)
-      ∙ ap (λ b. asks d.responsibility (to_starboard_by f.own f.target f.windward (terms config f) (tests f) d.rule) b) (here_port d.rule d.responsibility)
-      ∙ ap (λ d. asks d.responsibility (to_starboard_by f.own f.target f.windward (terms config f) (tests f) d.rule) (to_port_by f.own f.target f.windward (terms config f) (tests f) d.rule d.responsibility)) here_decided
-
--- ---- trying all: n tests, and the categories of both vessels with the wind
-abbrev Tests_of : ℕ → Type 0
-Tests_of zero = Bool
-Tests_of (suc n) = Bool → Tests_of n
-
-abbrev all : (n : ℕ) → Tests_of n → Bool
-all zero P = P
-all (suc n) P = all n (P true) && all n (P false)
-
-abbrev Always : (n : ℕ) → Tests_of n → Type 0
-Always zero P = T P
-Always (suc n) P = (b : Bool) → Always n (P b)
-
-either_value : (n : ℕ) (P : Bool → Tests_of n) → Always n (P true) → Always n (P false) → (b : Bool) → Always n (P b)
-either_value n P h k true = h
-either_value n P h k false = k
-
-always : (n : ℕ) (P : Tests_of n) → T (all n P) → Always n P
-always zero P h = h
-always (suc n) P h =
-    either_value n P (always n (P true) (and_l (all n (P true)) _ h)) (always n (P false) (and_r (all n (P true)) _ h))
-
-abbrev all_tacks : (Tack → Bool) → Bool
-all_tacks P = P Tack.Port && (P Tack.Starboard && P Tack.Unknown)
-
-any_tack : (P : Tack → Bool) → T (all_tacks P) → (t : Tack) → T (P t)
-any_tack P h Tack.Port = and_l (P Tack.Port) _ h
-any_tack P h Tack.Starboard = and_l (P Tack.Starboard) _ (and_r (P Tack.Port) _ h)
-any_tack P h Tack.Unknown = and_r (P Tack.Starboard) _ (and_r (P Tack.Port) _ h)
-
-abbrev all_winds : (Windward → Bool) → Bool
-all_winds P = P Windward.Own && (P Windward.Target && P Windward.Unknown)
-
-any_wind : (P : Windward → Bool) → T (all_winds P) → (w : Windward) → T (P w)
-any_wind P h Windward.Own = and_l (P Windward.Own) _ h
-any_wind P h Windward.Target = and_l (P Windward.Target) _ (and_r (P Windward.Own) _ h)
-any_wind P h Windward.Unknown = and_r (P Windward.Target) _ (and_r (P Windward.Own) _ h)
-
-abbrev all_categories : (VesselCategory → Bool) → Bool
-all_categories P =
-    all_tacks (λ t. P (Sailing t))
-    && (P PowerDriven && (P Fishing && (P ConstrainedByDraught && (P RestrictedInAbilityToManoeuvre && P NotUnderCommand))))
-
-any_category : (P : VesselCategory → Bool) → T (all_categories P) → (c : VesselCategory) → T (P c)
-any_category P h = go (all_tacks (λ t. P (Sailing t))) (any_tack (λ t. P (Sailing t))) h
-  where
-    go : (b : Bool) → (T b → (t : Tack) → T (P (Sailing t)))
-        → T (b && (P PowerDriven && (P Fishing && (P ConstrainedByDraught && (P RestrictedInAbilityToManoeuvre && P NotUnderCommand))))) → (c : VesselCategory) → T (P c)
-    go b f h (Sailing t) = f (and_l b _ h) t
-    go b f h PowerDriven = and_l (P PowerDriven) _ (and_r b _ h)
-    go b f h Fishing = and_l (P Fishing) _ (and_r (P PowerDriven) _ (and_r b _ h))
-    go b f h ConstrainedByDraught = and_l (P ConstrainedByDraught) _ (and_r (P Fishing) _ (and_r (P PowerDriven) _ (and_r b _ h)))
-    go b f h RestrictedInAbilityToManoeuvre =
-        and_l (P RestrictedInAbilityToManoeuvre) _ (and_r (P ConstrainedByDraught) _ (and_r (P Fishing) _ (and_r (P PowerDriven) _ (and_r b _ h))))
-    go b f h NotUnderCommand =
-        and_r (P RestrictedInAbilityToManoeuvre) _ (and_r (P ConstrainedByDraught) _ (and_r (P Fishing) _ (and_r (P PowerDriven) _ (and_r b _ h))))
-
-abbrev all_pairs : (VesselCategory → VesselCategory → Windward → Bool) → Bool
-all_pairs P = all_categories (λ own. all_categories (λ other. all_winds (λ w. P own other w)))
-
-any_pair : (P : VesselCategory → VesselCategory → Windward → Bool) → T (all_pairs P) → (own other : VesselCategory) (w : Windward) → T (P own other w)
-any_pair P h own other w =
-    any_wind (λ w. P own other w)
-    (any_category (λ other. all_winds (λ w. P own other w)) (any_category (λ own. all_categories (λ other. all_winds (λ w. P own other w))) h own) other) w
+      ∙ ap (λ b. asks d.responsibility (to_starboard_by f.own f.target f.wind (terms config f) (tests f) d.rule) b) (here_port d.rule d.responsibility)
+      ∙ ap (λ d. asks d.responsibility (to_starboard_by f.own f.target f.wind (terms config f) (tests f) d.rule) (to_port_by f.own f.target f.wind (terms config f) (tests f) d.rule d.responsibility)) here_decided
 
 -- ---- what is asked, compared
 abbrev pub same_bool : Bool → Bool → Bool
@@ -183,7 +119,7 @@ is_same_bool true false h = elim h [ ]
 is_same_bool false true h = elim h [ ]
 is_same_bool false false h = refl
 
-is_same_duty : (a b : Responsibility) → T (eqb (code a) (code b)) → a ≡ b
+pub is_same_duty : (a b : Responsibility) → T (eqb (code a) (code b)) → a ≡ b
 is_same_duty GiveWay GiveWay h = refl
 is_same_duty GiveWay StandOn h = elim h [ ]
 is_same_duty GiveWay Both h = elim h [ ]
@@ -226,14 +162,14 @@ every_holds P (j ∷ ks) h k (Memᴰ.head e) = subst (λ k. T (P k)) (sym e) (an
 every_holds P (j ∷ ks) h k (Memᴰ.tail m) = every_holds P ks (and_r (P j) _ h) k m
 
 -- ---- both theorems over terms and tests: the text or a case, and what the ruling says in each case
-abbrev settled : Visibility → VesselCategory → VesselCategory → Windward → Terms → Tests → Bool
+abbrev settled : Visibility → VesselCategory → VesselCategory → Wind → Terms → Tests → Bool
 settled v own other w t x =
     same (ruled own other w t x v) (first_asked (paragraphs v own other w t)) || list_any (λ k. k.condition v own other w t x) cases
 
-abbrev follows : Visibility → VesselCategory → VesselCategory → Windward → Terms → Tests → Case → Bool
+abbrev follows : Visibility → VesselCategory → VesselCategory → Wind → Terms → Tests → Case → Bool
 follows v own other w t x k = not (k.condition v own other w t x) || same (ruled own other w t x v) (k.instead v own other w t x)
 
-abbrev good : Visibility → VesselCategory → VesselCategory → Windward → Terms → Tests → Bool
+abbrev good : Visibility → VesselCategory → VesselCategory → Wind → Terms → Tests → Bool
 good v own other w t x = settled v own other w t x && list_all (follows v own other w t x) cases
 
 abbrev terms_by : Bool → Bool → Bool → Bool → Bool → Bool → Bool → Bool → Terms
@@ -244,7 +180,7 @@ tests_by faster in_line starboard abaft = record { faster = faster; in_line = in
 
 -- in sight, neither overtaking; forward, faster and the side abaft do not count
 module _ (forward faster abaft : Bool) where
-  abbrev seen_at : Bool → Bool → Bool → Bool → Bool → Bool → Bool → VesselCategory → VesselCategory → Windward → Bool
+  abbrev seen_at : Bool → Bool → Bool → Bool → Bool → Bool → Bool → VesselCategory → VesselCategory → Wind → Bool
   seen_at i c a s q r p own other w = good InSight own other w (terms_by c false false a s p q forward) (tests_by faster i r abaft)
 
   abbrev in_line_at : Bool → Bool → Bool → Bool → Bool → Bool → Bool
@@ -262,7 +198,7 @@ module _ (forward faster abaft : Bool) where
   unfolding first_asked rule18 decided
   aside_seen = tt
 
-  seen : (own other : VesselCategory) (w : Windward) (i c a s q r p : Bool) → (i ≡ false → (r ≡ s) × (p ≡ not s)) → T (seen_at i c a s q r p own other w)
+  seen : (own other : VesselCategory) (w : Wind) (i c a s q r p : Bool) → (i ≡ false → (r ≡ s) × (p ≡ not s)) → T (seen_at i c a s q r p own other w)
   seen own other w true c a s q r p h = any_pair (seen_at true c a s q r p) (always 6 in_line_at in_line_seen c a s q r p) own other w
   seen own other w false c a s q r p h =
       subst (λ r. T (seen_at false c a s q r p own other w)) (sym (h refl).0)
@@ -270,7 +206,7 @@ module _ (forward faster abaft : Bool) where
       (any_pair (seen_at false c a s q s (not s)) (always 4 aside_at aside_seen c a s q) own other w))
 
 -- where one vessel overtakes the other, in sight, nothing else counts
-overtaking_seen : (own other : VesselCategory) (w : Windward) (c a s p q forward : Bool) (o d faster i r abaft : Bool) → T (o || d)
+overtaking_seen : (own other : VesselCategory) (w : Wind) (c a s p q forward : Bool) (o d faster i r abaft : Bool) → T (o || d)
     → T (good InSight own other w (terms_by c o d a s p q forward) (tests_by faster i r abaft))
 unfolding first_asked decided
 overtaking_seen own other w c a s p q forward true true true i r abaft h = tt
@@ -280,7 +216,7 @@ overtaking_seen own other w c a s p q forward false true faster i r abaft h = tt
 overtaking_seen own other w c a s p q forward false false faster i r abaft h = elim h [ ]
 
 -- not in sight: by closing, the beam and the side; a vessel that does not close overtakes nobody
-module _ (own other : VesselCategory) (w : Windward) (q r : Bool) where
+module _ (own other : VesselCategory) (w : Wind) (q r : Bool) where
   abbrev unseen_at : Bool → Bool → Bool → Bool → Bool → Bool → Bool → Bool → Bool → Bool → Bool
   unseen_at i f c o d faster a s p z = good Restricted own other w (terms_by c (c && o) (c && d) a s p q f) (tests_by faster i r z)
 
@@ -391,40 +327,40 @@ module _ (config : ColregsConfig) (f : Geometry) (number : T (not (is_nan f.rela
   abbrev r : Bool
   r = cond near (lt f.aspect Fold.zero) (lt Fold.zero x)
 
-  all_good : T (good f.visibility f.own f.target f.windward (terms config f) (tests f))
+  all_good : T (good f.visibility f.own f.target f.wind (terms config f) (tests f))
   unfolding terms tests
   all_good = go f.visibility
     where
-      by13 : (o d : Bool) → T (good InSight f.own f.target f.windward (terms_by c o d a (on_starboard x) (on_port x) q forward) (tests f))
-      by13 false false = seen forward faster (to_starboard x) f.own f.target f.windward i c a (on_starboard x) q r (on_port x) counted
-      by13 true d = overtaking_seen f.own f.target f.windward c a (on_starboard x) (on_port x) q forward true d faster i r (to_starboard x) tt
-      by13 false true = overtaking_seen f.own f.target f.windward c a (on_starboard x) (on_port x) q forward false true faster i r (to_starboard x) tt
+      by13 : (o d : Bool) → T (good InSight f.own f.target f.wind (terms_by c o d a (on_starboard x) (on_port x) q forward) (tests f))
+      by13 false false = seen forward faster (to_starboard x) f.own f.target f.wind i c a (on_starboard x) q r (on_port x) counted
+      by13 true d = overtaking_seen f.own f.target f.wind c a (on_starboard x) (on_port x) q forward true d faster i r (to_starboard x) tt
+      by13 false true = overtaking_seen f.own f.target f.wind c a (on_starboard x) (on_port x) q forward false true faster i r (to_starboard x) tt
 
-      go : (v : Visibility) → T (good v f.own f.target f.windward (terms config f) (tests f))
+      go : (v : Visibility) → T (good v f.own f.target f.wind (terms config f) (tests f))
       go InSight = by13 (c && more_abaft config f.aspect) (c && more_abaft config x)
       go Restricted =
-          unseen f.own f.target f.windward q r i forward c (more_abaft config f.aspect) (more_abaft config x) faster a (on_starboard x) (on_port x) (to_starboard x) counted_abaft
+          unseen f.own f.target f.wind q r i forward c (more_abaft config f.aspect) (more_abaft config x) faster a (on_starboard x) (on_port x) (to_starboard x) counted_abaft
 
   -- the ruling asks what the text asks, or a case of departure holds: there is no other
   pub by_text_or_departs : (asked (ruling_of config f) ≡ text config f) ⊎ Departs config f
   unfolding text applies
   by_text_or_departs =
-      or_elim (same (ruled f.own f.target f.windward (terms config f) (tests f) f.visibility) (text config f)) _
+      or_elim (same (ruled f.own f.target f.wind (terms config f) (tests f) f.visibility) (text config f)) _
       (λ t. inl (ruled_is config f ∙ is_same _ _ t))
       (λ t. let o = found (λ k. applies k config f) cases t in inr (record { case = o.case; listed = o.listed; holds = o.holds }))
-      (and_l (settled f.visibility f.own f.target f.windward (terms config f) (tests f)) _ all_good)
+      (and_l (settled f.visibility f.own f.target f.wind (terms config f) (tests f)) _ all_good)
 
   -- where a case holds, the ruling says what the case says
   pub instead_is : (k : Case) → Memᴰ k cases → T (applies k config f) → asked (ruling_of config f) ≡ instead k config f
   unfolding applies instead
   instead_is k m h =
-      ruled_is config f ∙ is_same _ _ (given (k.condition f.visibility f.own f.target f.windward (terms config f) (tests f)) _ h (every_holds follow cases each k m))
+      ruled_is config f ∙ is_same _ _ (given (k.condition f.visibility f.own f.target f.wind (terms config f) (tests f)) _ h (every_holds follow cases each k m))
     where
       follow : Case → Bool
-      follow k = follows f.visibility f.own f.target f.windward (terms config f) (tests f) k
+      follow k = follows f.visibility f.own f.target f.wind (terms config f) (tests f) k
 
       each : T (list_all follow cases)
-      each = and_r (settled f.visibility f.own f.target f.windward (terms config f) (tests f)) _ all_good
+      each = and_r (settled f.visibility f.own f.target f.wind (terms config f) (tests f)) _ all_good
 
       given : (a b : Bool) → T a → T (not a || b) → T b
       given true b h k = k

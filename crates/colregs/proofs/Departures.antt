@@ -8,7 +8,7 @@ use Rattle.laws.specs.Units.{units_of}
 use Rattle.math.specs.Convert.{degrees_per_radian, to_radians, to_degrees}
 use Rattle.math.specs.Sign.{abs}
 use Rattle.math.specs.Test.{is_effectively_zero}
-use Rattle.math.specs.Fold.{turned, whole_fold, half_fold}
+use Rattle.math.specs.Fold.{turned, whole_fold, half_fold, reciprocal}
 use Rattle.roots.specs.Hypot.{hypot}
 use Rattle.roots.specs.Hypot as hypots
 use Rattle.roots.specs.Sqrt.{sqrt}
@@ -33,7 +33,7 @@ use Rattle.colregs.specs.Colregs.{abaft, own_comes_up, target_comes_up, own_over
 use Rattle.situation.specs.declared.party.Situation.{Situation}
 use Rattle.situation.specs.Situation.{standard}
 use Rattle.colregs.specs.Text.{terms, more_abaft, nearly_ahead, on_starboard, on_port, first_asked, text}
-use Rattle.colregs.specs.Departs.{asked, tests, Case, cases, applies, each_from_abaft, draught_over_power, draught_over_sail_and_fishing, command_over_restricted, two_of_another_category, not_closing, unknown_to_windward, either_tack, stand_on_not_to_port, ahead_or_astern, neither_to_starboard, astern_unseen, not_closing_unseen}
+use Rattle.colregs.specs.Departs.{asked, tests, Case, cases, applies, each_from_abaft, draught_over_power, draught_over_sail_and_fishing, command_over_restricted, two_of_another_category, not_closing, either_tack, stand_on_not_to_port, ahead_or_astern, neither_to_starboard, astern_unseen, not_closing_unseen}
 use Rattle.colregs.proofs.Departing.{same}
 use Rattle.colregs.proofs.Rows.{a, power, heads, vessel, seen, unseen, wind, rules}
 
@@ -55,8 +55,7 @@ departures =
     ∷ rules (seen (power 0 10) 45 5 (power 45 20)) (Crossing Starboard) GiveWay Rule15 true false true false
     ∷ rules (seen (power 0 10) 0 2 (power 0 10)) (Crossing Port) StandOn Rule17 true false true true
     ∷ rules (seen (heads 0 (power 180 5)) 0 2 (heads 180 (power 0 5))) HeadOn Both Rule14 true false true false
-    -- a tack unknown: to windward of the port tack; to leeward of it
-    ∷ rules (wind 270 (seen (a (Sailing Tack.Port) 0 5) 270 2 (a (Sailing Tack.Unknown) 45 5))) (Crossing Port) Undetermined Rule12 true true true false
+    -- a tack unknown, to leeward of the port tack
     ∷ rules (wind 90 (seen (a (Sailing Tack.Port) 0 5) 270 2 (a (Sailing Tack.Unknown) 45 5))) (Crossing Port) Undetermined Rule12 true true true false
     -- not to port for a vessel to starboard
     ∷ rules (seen (a Fishing 0 5) 45 5 (power 270 10)) (Crossing Starboard) StandOn Rule18 true false true true
@@ -73,6 +72,9 @@ departures =
     ∷ rules (wind 0 (seen (a (Sailing Tack.Starboard) 0 5) 90 2 (a (Sailing Tack.Starboard) 0 5))) (Crossing Starboard) StandOn Rule12 true false true true
     ∷ rules (wind 0 (seen (a (Sailing Tack.Starboard) 0 5) 270 2 (a (Sailing Tack.Starboard) 0 5))) (Crossing Port) StandOn Rule12 true false true true
     ∷ rules (seen (a (Sailing Tack.Starboard) 0 5) 90 2 (a (Sailing Tack.Starboard) 0 5)) (Crossing Starboard) Undetermined Rule12 true true true false
+    -- 12(a)(iii): at 90 degrees from the wind each sees the other to windward, and both give way
+    ∷ rules (wind 0 (seen (a (Sailing Tack.Port) 0 5) 90 2 (a (Sailing Tack.Unknown) 0 5))) (Crossing Starboard) GiveWay Rule12 true true true false
+    ∷ rules (wind 0 (seen (a (Sailing Tack.Port) 0 5) 270 2 (a (Sailing Tack.Unknown) 0 5))) (Crossing Port) GiveWay Rule12 true true true false
     -- 13(b), (c): exactly 22.5 degrees abaft the beam
     ∷ rules (seen (power 0 20) 0 5 (party (vessel (record { 0 = of_bits binary64 0x4050_e000_0000_0000 }) 10) PowerDriven)) (Crossing Port) StandOn Rule17 true false true true
     -- 13(d): overtaking, and later crossing
@@ -92,7 +94,7 @@ departures =
     ∷ []
 
 pub departures_hold : every departures ≡ true
-unfolding departures of_bits of_int round add sub mul div neg rem lt le eq size units_of degrees_per_radian to_radians to_degrees abs is_effectively_zero turned whole_fold half_fold hypot hypots.in_domain sqrt sine_divisors cosine_divisors distance quarters even negative horner square sine_units cosine_units removed rest turned_minus turned_units sin cos circular.in_domain circular.scaled circular.from_units in_range verdict is_direction is_speed is_distance unit resolved velocity party with_heading heading situation with_wind_from relative_of aspect_of larger speed_of range_rate is_closing geometry_of party_checks is_width situation_checks abaft own_comes_up target_comes_up own_overtakes target_overtakes is_head_on side_of rule18 encounter_of decided forward_of_beam rule19_starboard rule19_port rule17_port permitted ruling_for ruling_of ruling_answer
+unfolding departures of_bits of_int round add sub mul div neg rem lt le eq size units_of degrees_per_radian to_radians to_degrees abs is_effectively_zero turned whole_fold half_fold reciprocal hypot hypots.in_domain sqrt sine_divisors cosine_divisors distance quarters even negative horner square sine_units cosine_units removed rest turned_minus turned_units sin cos circular.in_domain circular.scaled circular.from_units in_range verdict is_direction is_speed is_distance unit resolved velocity party with_heading heading situation with_wind_from relative_of aspect_of larger speed_of range_rate is_closing geometry_of party_checks is_width situation_checks abaft own_comes_up target_comes_up own_overtakes target_overtakes is_head_on side_of rule18 encounter_of decided forward_of_beam rule19_starboard rule19_port rule17_port permitted ruling_for ruling_of ruling_answer
 departures_hold = refl
 
 -- ---- an example of each case, in which the ruling and the text differ
@@ -111,7 +113,6 @@ examples =
     ∷ of command_over_restricted (seen (a RestrictedInAbilityToManoeuvre 0 10) 45 5 (a NotUnderCommand 270 10))
     ∷ of two_of_another_category (seen (a Fishing 0 10) 45 5 (a Fishing 270 10))
     ∷ of not_closing (seen (power 0 10) 45 5 (power 45 20))
-    ∷ of unknown_to_windward (wind 270 (seen (a (Sailing Tack.Port) 0 5) 270 2 (a (Sailing Tack.Unknown) 45 5)))
     ∷ of either_tack (wind 90 (seen (a (Sailing Tack.Port) 0 5) 270 2 (a (Sailing Tack.Unknown) 45 5)))
     ∷ of stand_on_not_to_port (seen (a Fishing 0 5) 45 5 (power 270 10))
     ∷ of ahead_or_astern (seen (power 0 10) 0 5 (power 270 10))
@@ -139,5 +140,5 @@ all_show [] = true
 all_show (e ∷ es) = shows e && all_show es
 
 pub examples_differ : all_show examples ≡ true
-unfolding examples applies text first_asked terms tests more_abaft nearly_ahead on_starboard on_port of_bits of_int round add sub mul div neg rem lt le eq size units_of degrees_per_radian to_radians to_degrees abs is_effectively_zero turned whole_fold half_fold hypot hypots.in_domain sqrt sine_divisors cosine_divisors distance quarters even negative horner square sine_units cosine_units removed rest turned_minus turned_units sin cos circular.in_domain circular.scaled circular.from_units in_range verdict is_direction is_speed is_distance unit resolved velocity party with_heading heading situation with_wind_from relative_of aspect_of larger speed_of range_rate is_closing geometry_of party_checks is_width situation_checks abaft own_comes_up target_comes_up own_overtakes target_overtakes is_head_on side_of rule18 encounter_of decided forward_of_beam rule19_starboard rule19_port rule17_port permitted ruling_for ruling_of ruling_answer
+unfolding examples applies text first_asked terms tests more_abaft nearly_ahead on_starboard on_port of_bits of_int round add sub mul div neg rem lt le eq size units_of degrees_per_radian to_radians to_degrees abs is_effectively_zero turned whole_fold half_fold reciprocal hypot hypots.in_domain sqrt sine_divisors cosine_divisors distance quarters even negative horner square sine_units cosine_units removed rest turned_minus turned_units sin cos circular.in_domain circular.scaled circular.from_units in_range verdict is_direction is_speed is_distance unit resolved velocity party with_heading heading situation with_wind_from relative_of aspect_of larger speed_of range_rate is_closing geometry_of party_checks is_width situation_checks abaft own_comes_up target_comes_up own_overtakes target_overtakes is_head_on side_of rule18 encounter_of decided forward_of_beam rule19_starboard rule19_port rule17_port permitted ruling_for ruling_of ruling_answer
 examples_differ = refl

@@ -6,3 +6,5 @@ pub mod ResponsibilityCode
 pub mod Rows
 pub mod RulesCode
 pub mod Settled
+pub mod ToWindward
+pub mod Trying

@@ -12,6 +12,7 @@ use Rattle.situation.specs.declared.party.VesselCategory.{VesselCategory}
 use Rattle.situation.specs.declared.party.VesselCategory.TheVariants.{PowerDriven, Sailing, Fishing, ConstrainedByDraught, RestrictedInAbilityToManoeuvre, NotUnderCommand}
 use Rattle.situation.specs.declared.party.Tack.{Tack}
 use Rattle.colregs.specs.declared.geometry.Windward.{Windward}
+use Rattle.colregs.specs.declared.geometry.Wind.{Wind}
 use Rattle.situation.specs.declared.config.ColregsConfig.{ColregsConfig}
 use Rattle.colregs.specs.declared.geometry.Geometry.{Geometry}
 use Rattle.motion.specs.declared.side.Side.{Side}
@@ -22,7 +23,7 @@ use Rattle.colregs.specs.declared.answer.Responsibility.{Responsibility}
 use Rattle.colregs.specs.declared.answer.Responsibility.TheVariants.{GiveWay, StandOn, Both, Undetermined}
 use Rattle.colregs.specs.declared.answer.Rule.{Rule}
 use Rattle.colregs.specs.declared.answer.Rule.TheVariants.{Rule12, Rule13, Rule14, Rule15, Rule17, Rule18, Rule19}
-use Rattle.colregs.specs.Colregs.{Says, silent, says, clause, own_overtakes, target_comes_up, target_overtakes, is_head_on, side_of, encounter_of, keeps_clear, rule13, rule18, rule12, rule19, rule12_sailing, windward_gives_way, sailing_vessels, decided, unless_silent, one_rank, ranks_first, clauses_in_sight, clauses, permitted, forward_of_beam, to_starboard, is_overtaking, permits_starboard, permits_port, rule19_starboard, rule19_port, rule17_port, ruling_for, ruling_of}
+use Rattle.colregs.specs.Colregs.{Says, silent, says, clause, own_overtakes, target_comes_up, target_overtakes, is_head_on, side_of, encounter_of, keeps_clear, rule13, rule18, rule12, rule19, rule12_sailing, windward_gives_way, port_tack_keeps_clear, sailing_vessels, decided, unless_silent, one_rank, ranks_first, clauses_in_sight, clauses, permitted, forward_of_beam, to_starboard, is_overtaking, permits_starboard, permits_port, rule19_starboard, rule19_port, rule17_port, ruling_for, ruling_of}
 use Rattle.colregs.specs.Log.{same_side, is_kind, OneKind, speaks, some_speaks, Row, row, row_of, In, here, there, in_sight, restricted}
 
 -- ---- exactly one kind
@@ -89,8 +90,8 @@ module _ (config : ColregsConfig) (f : Geometry) where
 pub the_rules_decide : (e : Encounter) (f : Geometry) → T (some_speaks (clauses e f))
 the_rules_decide e f = or_right (speaks (rule19 f.visibility)) (some_speaks (clauses_in_sight e f)) (go e)
   where
-    ranks : (e : Encounter) → T (some_speaks (one_rank e)) → T (some_speaks (ranks_first e f.own f.target f.windward))
-    ranks e h = or_right (speaks (rule18 f.own f.target)) _ (or_right (speaks (rule12 f.own f.target f.windward)) _ h)
+    ranks : (e : Encounter) → T (some_speaks (one_rank e)) → T (some_speaks (ranks_first e f.own f.target f.wind))
+    ranks e h = or_right (speaks (rule18 f.own f.target)) _ (or_right (speaks (rule12 f.own f.target f.wind)) _ h)
 
     go : (e : Encounter) → T (some_speaks (clauses_in_sight e f))
     go Overtaking = tt
@@ -125,16 +126,20 @@ by_windward_lem Windward.Own = gives
 by_windward_lem Windward.Target = stands
 by_windward_lem Windward.Unknown = unsaid
 
-by_tacks_lem : (own target : Tack) (w : Windward) → By12 (says (sailing_vessels own target w))
+by_sight_lem : (seen : Bool) → By12 (says (port_tack_keeps_clear seen))
+by_sight_lem true = gives
+by_sight_lem false = unsaid
+
+by_tacks_lem : (own target : Tack) (w : Wind) → By12 (says (sailing_vessels own target w))
 by_tacks_lem Tack.Port Tack.Starboard w = gives
 by_tacks_lem Tack.Starboard Tack.Port w = stands
-by_tacks_lem Tack.Port Tack.Port w = by_windward_lem w
-by_tacks_lem Tack.Starboard Tack.Starboard w = by_windward_lem w
-by_tacks_lem Tack.Port Tack.Unknown w = unsaid
+by_tacks_lem Tack.Port Tack.Port w = by_windward_lem w.windward
+by_tacks_lem Tack.Starboard Tack.Starboard w = by_windward_lem w.windward
+by_tacks_lem Tack.Port Tack.Unknown w = by_sight_lem w.seen_to_windward
 by_tacks_lem Tack.Starboard Tack.Unknown w = unsaid
 by_tacks_lem Tack.Unknown target w = unsaid
 
-beside : (own : Tack) (target : VesselCategory) (w : Windward) → By12 (rule12_sailing own target w)
+beside : (own : Tack) (target : VesselCategory) (w : Wind) → By12 (rule12_sailing own target w)
 beside own (Sailing target) w = by_tacks_lem own target w
 beside own PowerDriven w = nothing
 beside own Fishing w = nothing
@@ -142,7 +147,7 @@ beside own ConstrainedByDraught w = nothing
 beside own RestrictedInAbilityToManoeuvre w = nothing
 beside own NotUnderCommand w = nothing
 
-by_12 : (own target : VesselCategory) (w : Windward) → By12 (rule12 own target w)
+by_12 : (own target : VesselCategory) (w : Wind) → By12 (rule12 own target w)
 by_12 (Sailing own) target w = beside own target w
 by_12 PowerDriven target w = nothing
 by_12 Fishing target w = nothing
@@ -198,7 +203,7 @@ module _ (relative : Float) where
   to_starboard_lem _ _ nothing unsaid = within 16 in_sight tt
   to_starboard_lem _ _ nothing nothing = within 18 in_sight tt
 
-  seen : (e : Encounter) (own target : VesselCategory) (w : Windward) → In (row_of (ruling_for e (decided (clause Rule13 (rule13 e) ∷ ranks_first e own target w)) relative)) in_sight
+  seen : (e : Encounter) (own target : VesselCategory) (w : Wind) → In (row_of (ruling_for e (decided (clause Rule13 (rule13 e) ∷ ranks_first e own target w)) relative)) in_sight
   unfolding row_of ruling_for permitted decided rule17_port
   seen Overtaking own target w = within 0 in_sight tt
   seen BeingOvertaken own target w = within 1 in_sight tt
@@ -221,7 +226,7 @@ module _ (config : ColregsConfig) (f : Geometry) where
 
   -- vessels in sight of one another: the ruling is a row of the table
   pub in-sight-listed : f.visibility ≡ InSight → In (row_of (ruling_of config f)) in_sight
-  in-sight-listed h = subst (λ r. In r in_sight) (sym (ruled ∙ ap row_by h ∙ in-sight-is)) (seen f.relative (encounter_of config f) f.own f.target f.windward)
+  in-sight-listed h = subst (λ r. In r in_sight) (sym (ruled ∙ ap row_by h ∙ in-sight-is)) (seen f.relative (encounter_of config f) f.own f.target f.wind)
 
   -- restricted visibility: the ruling is the row of the target's place
   restricted_by : (e : Encounter) (forward starboard : Bool) → row Rule19 Both e (forward || not starboard) (cond forward (is_overtaking e) starboard) ≡ cond forward (row Rule19 Both e true (is_overtaking e)) (cond starboard (row Rule19 Both e false true) (row Rule19 Both e true false))

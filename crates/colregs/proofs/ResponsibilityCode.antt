@@ -6,7 +6,7 @@ use Rattle.std.specs.Option.{unwrap_or}
 use borrow.Author.Tests.{lt-ltb, le-ltb}
 use Rattle.situation.specs.declared.party.VesselCategory.{VesselCategory}
 use Rattle.situation.specs.declared.party.VesselCategory.TheVariants.{PowerDriven, Sailing, Fishing, ConstrainedByDraught, RestrictedInAbilityToManoeuvre, NotUnderCommand}
-use Rattle.colregs.specs.declared.geometry.Windward.{Windward}
+use Rattle.colregs.specs.declared.geometry.Wind.{Wind}
 use Rattle.colregs.specs.declared.answer.Encounter.{Encounter}
 use Rattle.colregs.specs.declared.answer.Responsibility.TheVariants.{GiveWay, StandOn}
 use Rattle.colregs.specs.declared.answer.Rule.TheVariants.{Rule12, Rule18}
@@ -59,7 +59,7 @@ rank NotUnderCommand ConstrainedByDraught = refl
 rank NotUnderCommand RestrictedInAbilityToManoeuvre = refl
 rank NotUnderCommand NotUnderCommand = refl
 
-module _ (e : Encounter) (own target : VesselCategory) (w : Windward) (o t : ℕ) (is-own : o ≡ precedence own) (is-target : t ≡ precedence target) where
+module _ (e : Encounter) (own target : VesselCategory) (w : Wind) (o t : ℕ) (is-own : o ≡ precedence own) (is-target : t ≡ precedence target) where
   own_clear : keeps_clear own target ≡ ltb o t
   own_clear = rank own target ∙ ap (λ n. ltb n (precedence target)) (sym is-own) ∙ ap (λ n. ltb o n) (sym is-target)
 

@@ -18,7 +18,8 @@ use Rattle.situation.specs.declared.party.Visibility.TheVariants.{InSight, Restr
 use Rattle.situation.specs.declared.config.ColregsConfig.{ColregsConfig}
 use Rattle.situation.specs.Arguments.{quarter_turn}
 use Rattle.colregs.specs.declared.geometry.Windward.{Windward}
-use Rattle.colregs.specs.Geometry.{windward_of, geometry_of}
+use Rattle.colregs.specs.declared.geometry.Wind.{Wind}
+use Rattle.colregs.specs.Geometry.{windward_of, wind_of, geometry_of}
 use Rattle.colregs.specs.declared.answer.Encounter.{Encounter}
 use Rattle.colregs.specs.declared.answer.Encounter.TheVariants.{Overtaking, BeingOvertaken, HeadOn, Crossing}
 use Rattle.colregs.specs.declared.answer.Rule.{Rule}
@@ -39,11 +40,11 @@ to_windward Windward.Own k = tt
 to_windward Windward.Target k = tt
 to_windward Windward.Unknown k = absurd k
 
-by_tacks_lem : (own target : Tack) (w : Windward) → T (on_tack (Sailing own)) → T (on_tack (Sailing target)) → told w → T (is_settled (sailing_vessels own target w))
+by_tacks_lem : (own target : Tack) (w : Wind) → T (on_tack (Sailing own)) → T (on_tack (Sailing target)) → told w.windward → T (is_settled (sailing_vessels own target w))
 by_tacks_lem Tack.Port Tack.Starboard w a b k = tt
 by_tacks_lem Tack.Starboard Tack.Port w a b k = tt
-by_tacks_lem Tack.Port Tack.Port w a b k = to_windward w k
-by_tacks_lem Tack.Starboard Tack.Starboard w a b k = to_windward w k
+by_tacks_lem Tack.Port Tack.Port w a b k = to_windward w.windward k
+by_tacks_lem Tack.Starboard Tack.Starboard w a b k = to_windward w.windward k
 by_tacks_lem Tack.Port Tack.Unknown w a b k = absurd b
 by_tacks_lem Tack.Starboard Tack.Unknown w a b k = absurd b
 by_tacks_lem Tack.Unknown target w a b k = absurd a
@@ -76,7 +77,7 @@ rule18_settles a b = go (keeps_clear a b) (keeps_clear b a)
     go false true = tt
     go false false = tt
 
-module _ (e : Encounter) (w : Windward) (k : told w) where
+module _ (e : Encounter) (w : Wind) (k : told w.windward) where
   sailing : (a b : Tack) → T (on_tack (Sailing a)) → T (on_tack (Sailing b)) → T (is_settled (decided (ranks_first e (Sailing a) (Sailing b) w)).responsibility)
   unfolding decided
   sailing a b ha hb = or_the_rest (rule18 (Sailing a) (Sailing b)) Rule18 _ (rule18_settles (Sailing a) (Sailing b)) (by_tacks_lem a b w ha hb k)
@@ -109,4 +110,4 @@ settled config s own target wind =
     let f = geometry_of s in
     let e = encounter_of config f in
     or_the_rest (rule19 s.visibility) Rule19 _ (rule19_settles s.visibility)
-    (or_the_rest (rule13 e) Rule13 _ (rule13_settles e) (ranked e (windward_of s.contact s.wind_from) (windward_told s.contact s.wind_from wind) s.own.category s.target.category own target))
+    (or_the_rest (rule13 e) Rule13 _ (rule13_settles e) (ranked e (wind_of s.contact s.wind_from) (windward_told s.contact s.wind_from wind) s.own.category s.target.category own target))

@@ -18,6 +18,7 @@ use Rattle.situation.specs.declared.party.Visibility.TheVariants.{InSight, Restr
 use Rattle.situation.specs.declared.party.Situation.{Situation}
 use Rattle.situation.specs.declared.config.ColregsConfig.{ColregsConfig}
 use Rattle.colregs.specs.declared.geometry.Windward.{Windward}
+use Rattle.colregs.specs.declared.geometry.Wind.{Wind}
 use Rattle.colregs.specs.declared.geometry.Geometry.{Geometry}
 use Rattle.motion.specs.declared.side.Side.{Side}
 use Rattle.colregs.specs.declared.answer.Encounter.{Encounter}
@@ -177,19 +178,23 @@ windward_gives_way Windward.Own = GiveWay
 windward_gives_way Windward.Target = StandOn
 windward_gives_way Windward.Unknown = Undetermined
 
--- (a)(i) the wind on different sides: the one with the wind on her port side keeps out of the way;
--- (a)(iii) the other's tack unknown (departs: undetermined, whatever own tack is and whoever is to
--- windward)
-abbrev pub sailing_vessels : Tack → Tack → Windward → Responsibility
+-- (a)(iii) the wind on own port side, and the other's tack unknown: own vessel keeps out of the way of
+-- one that she sees to windward (request R-2)
+abbrev pub port_tack_keeps_clear : Bool → Responsibility
+port_tack_keeps_clear seen_to_windward = cond seen_to_windward GiveWay Undetermined
+
+-- (a)(i) the wind on different sides: the one with the wind on her port side keeps out of the way. A
+-- tack that is not known, but for (iii) (departs: undetermined, where either tack would say the same)
+abbrev pub sailing_vessels : Tack → Tack → Wind → Responsibility
 sailing_vessels Tack.Port Tack.Starboard w = GiveWay
 sailing_vessels Tack.Starboard Tack.Port w = StandOn
-sailing_vessels Tack.Port Tack.Port w = windward_gives_way w
-sailing_vessels Tack.Starboard Tack.Starboard w = windward_gives_way w
-sailing_vessels Tack.Port Tack.Unknown w = Undetermined
+sailing_vessels Tack.Port Tack.Port w = windward_gives_way w.windward
+sailing_vessels Tack.Starboard Tack.Starboard w = windward_gives_way w.windward
+sailing_vessels Tack.Port Tack.Unknown w = port_tack_keeps_clear w.seen_to_windward
 sailing_vessels Tack.Starboard Tack.Unknown w = Undetermined
 sailing_vessels Tack.Unknown target w = Undetermined
 
-abbrev pub rule12_sailing : Tack → VesselCategory → Windward → Says
+abbrev pub rule12_sailing : Tack → VesselCategory → Wind → Says
 rule12_sailing own (Sailing target) w = says (sailing_vessels own target w)
 rule12_sailing own PowerDriven w = silent
 rule12_sailing own Fishing w = silent
@@ -197,7 +202,7 @@ rule12_sailing own ConstrainedByDraught w = silent
 rule12_sailing own RestrictedInAbilityToManoeuvre w = silent
 rule12_sailing own NotUnderCommand w = silent
 
-abbrev pub rule12 : VesselCategory → VesselCategory → Windward → Says
+abbrev pub rule12 : VesselCategory → VesselCategory → Wind → Says
 rule12 (Sailing own) target w = rule12_sailing own target w
 rule12 PowerDriven target w = silent
 rule12 Fishing target w = silent
@@ -239,11 +244,11 @@ decided (c ∷ cs) = unless_silent c.text c.number (decided cs)
 abbrev pub one_rank : Encounter → List Clause
 one_rank e = clause Rule14 (rule14 e) ∷ clause Rule15 (rule15 e) ∷ clause Rule17 (rule17 e) ∷ []
 
-abbrev pub ranks_first : Encounter → VesselCategory → VesselCategory → Windward → List Clause
+abbrev pub ranks_first : Encounter → VesselCategory → VesselCategory → Wind → List Clause
 ranks_first e own target w = clause Rule18 (rule18 own target) ∷ clause Rule12 (rule12 own target w) ∷ one_rank e
 
 abbrev pub clauses_in_sight : Encounter → Geometry → List Clause
-clauses_in_sight e f = clause Rule13 (rule13 e) ∷ ranks_first e f.own f.target f.windward
+clauses_in_sight e f = clause Rule13 (rule13 e) ∷ ranks_first e f.own f.target f.wind
 
 abbrev pub clauses : Encounter → Geometry → List Clause
 clauses e f = clause Rule19 (rule19 f.visibility) ∷ clauses_in_sight e f

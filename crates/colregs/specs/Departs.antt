@@ -13,7 +13,7 @@ use Rattle.situation.specs.declared.party.VesselCategory.TheVariants.{Restricted
 use Rattle.situation.specs.declared.party.Visibility.{Visibility}
 use Rattle.situation.specs.declared.party.Visibility.TheVariants.{InSight, Restricted}
 use Rattle.situation.specs.declared.config.ColregsConfig.{ColregsConfig}
-use Rattle.colregs.specs.declared.geometry.Windward.{Windward}
+use Rattle.colregs.specs.declared.geometry.Wind.{Wind}
 use Rattle.colregs.specs.declared.geometry.Geometry.{Geometry}
 use Rattle.colregs.specs.declared.answer.Responsibility.{Responsibility}
 use Rattle.colregs.specs.declared.answer.Responsibility.TheVariants.{GiveWay, StandOn, Both, Undetermined}
@@ -99,30 +99,20 @@ tack_of RestrictedInAbilityToManoeuvre = Tack.Unknown
 tack_of NotUnderCommand = Tack.Unknown
 
 -- the text's duty and the Rust's
-abbrev pub by_tacks : VesselCategory → VesselCategory → Windward → Responsibility
+abbrev pub by_tacks : VesselCategory → VesselCategory → Wind → Responsibility
 by_tacks own other w = tacks (tack_of own) (tack_of other) w
 
-abbrev pub ruled_by_tacks : VesselCategory → VesselCategory → Windward → Responsibility
+abbrev pub ruled_by_tacks : VesselCategory → VesselCategory → Wind → Responsibility
 ruled_by_tacks own other w = sailing_vessels (tack_of own) (tack_of other) w
 
 abbrev pub is_duty : Responsibility → Responsibility → Bool
 is_duty a b = eqb (code a) (code b)
 
--- Rule 12(a)(iii)
-abbrev pub port_tack_unknown : Tack → Tack → Windward → Bool
-port_tack_unknown Tack.Port Tack.Unknown Windward.Target = true
-port_tack_unknown Tack.Port Tack.Unknown Windward.Own = false
-port_tack_unknown Tack.Port Tack.Unknown Windward.Unknown = false
-port_tack_unknown Tack.Port Tack.Port w = false
-port_tack_unknown Tack.Port Tack.Starboard w = false
-port_tack_unknown Tack.Starboard other w = false
-port_tack_unknown Tack.Unknown other w = false
-
 -- ---- a case: its condition, and what the ruling says where it holds, over the visibility, the
 -- categories of own vessel and the other, the wind, the rules' terms and the Rust's tests
 pub record Case : Type 0 where
-  pub condition : Visibility → VesselCategory → VesselCategory → Windward → Terms → Tests → Bool
-  pub instead : Visibility → VesselCategory → VesselCategory → Windward → Terms → Tests → Asks
+  pub condition : Visibility → VesselCategory → VesselCategory → Wind → Terms → Tests → Bool
+  pub instead : Visibility → VesselCategory → VesselCategory → Wind → Terms → Tests → Asks
 
 -- in sight of one another, and neither overtaking
 abbrev pub is_in_sight : Visibility → Bool
@@ -192,20 +182,11 @@ not_closing = record {
   instead = λ v own other w t x. cond (is_sailing own) (by_duty (ruled_by_tacks own other w) t) (by_geometry t x);
 }
 
--- 12(a)(iii): own vessel on the port tack, and one to windward whose tack is not known: undetermined
-abbrev pub unknown_to_windward : Case
-unknown_to_windward = record {
-  condition = λ v own other w t x.
-      beside13 v t && (t.closing && (both_are is_sailing own other && port_tack_unknown (tack_of own) (tack_of other) w));
-  instead = λ v own other w t x. asks Undetermined true true;
-}
-
 -- 12(a)(i), (ii): a tack is not known, and on either the same is asked: undetermined
 abbrev pub either_tack : Case
 either_tack = record {
   condition = λ v own other w t x.
-      beside13 v t && (t.closing && (both_are is_sailing own other
-      && (not (port_tack_unknown (tack_of own) (tack_of other) w) && not (is_duty (by_tacks own other w) (ruled_by_tacks own other w)))));
+      beside13 v t && (t.closing && (both_are is_sailing own other && not (is_duty (by_tacks own other w) (ruled_by_tacks own other w))));
   instead = λ v own other w t x. asks Undetermined true true;
 }
 
@@ -256,7 +237,6 @@ cases =
     ∷ command_over_restricted
     ∷ two_of_another_category
     ∷ not_closing
-    ∷ unknown_to_windward
     ∷ either_tack
     ∷ stand_on_not_to_port
     ∷ ahead_or_astern
@@ -267,10 +247,10 @@ cases =
 
 -- ---- in a situation
 unfoldable pub applies : Case → ColregsConfig → Geometry → Bool
-applies k config f = k.condition f.visibility f.own f.target f.windward (terms config f) (tests f)
+applies k config f = k.condition f.visibility f.own f.target f.wind (terms config f) (tests f)
 
 unfoldable pub instead : Case → ColregsConfig → Geometry → Asks
-instead k config f = k.instead f.visibility f.own f.target f.windward (terms config f) (tests f)
+instead k config f = k.instead f.visibility f.own f.target f.wind (terms config f) (tests f)
 
 pub record Departs (config : ColregsConfig) (f : Geometry) : Type 0 where
   pub case : Case

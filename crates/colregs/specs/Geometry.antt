@@ -1,13 +1,13 @@
 -- The facts of a situation that the rules speak of, operation by operation (rules.rs,
--- `geometry_of`, `is_closing`, and the wind in `sailing_vessels`). Angles are taken from the
--- headings, closing from the motion.
-use Rattle.std.specs.Prelude.{Bool, ◌&&◌, not, cond, Float, None, Some}
-use Rattle.std.specs.Float.Ieee.{lt}
+-- `geometry_of`, `is_closing`, and the wind in `sailing_vessels`; request R-2). Angles are taken from
+-- the headings, closing from the motion.
+use Rattle.std.specs.Prelude.{Bool, false, ◌&&◌, not, cond, Float, None, Some}
+use Rattle.std.specs.Float.Ieee.{lt, le}
 use Rattle.laws.specs.Ops.{◌⊕◌, ◌⊖◌, ◌⊗◌}
 use Rattle.math.specs.Sign.{abs}
 use Rattle.math.specs.Test.{is_effectively_zero}
 unfoldable pub use Rattle.math.specs.Test.{larger}
-use Rattle.math.specs.Fold.{zero, half_turn, half_fold}
+use Rattle.math.specs.Fold.{zero, half_turn, half_fold, reciprocal}
 use Rattle.roots.specs.Hypot.{hypot}
 use Rattle.motion.specs.declared.units.Direction.{Direction}
 use Rattle.motion.specs.declared.vessel.Vessel.{Vessel}
@@ -17,6 +17,7 @@ use Rattle.motion.specs.Vessel.{unit, velocity}
 use Rattle.std.specs.declared.option.Option.{Option}
 use Rattle.situation.specs.declared.party.Situation.{Situation}
 use Rattle.colregs.specs.declared.geometry.Windward.{Windward}
+use Rattle.colregs.specs.declared.geometry.Wind.{Wind}
 use Rattle.colregs.specs.declared.geometry.Geometry.{Geometry}
 use Rattle.situation.specs.Situation.{heading}
 use Rattle.situation.specs.Arguments.{quarter_turn}
@@ -42,10 +43,21 @@ is_closing contact own target =
     let rate = range_rate (unit contact.bearing.0) (velocity own) (velocity target) in
     lt rate zero && not (is_effectively_zero rate (larger (speed_of (velocity own)) (speed_of (velocity target))))
 
--- own craft is to windward if the other lies within 90 degrees of where the wind blows to
+-- ---- the wind
+-- Rule 12(a)(ii): own craft is to windward if the other lies within 90 degrees of where it blows to
 abbrev pub windward_of : Contact → Option Direction → Windward
 windward_of contact None = Windward.Unknown
 windward_of contact (Some from) = cond (lt (abs (half_fold (contact.bearing.0 ⊖ (from.0 ⊕ half_turn)))) quarter_turn) Windward.Own Windward.Target
+
+-- Rule 12(a)(iii), request R-2: own craft sees the other to windward, 90 degrees or more from where
+-- it blows to, 'the wind's `reciprocal`'. A fact of its own: the direction is folded here before the
+-- difference is taken, and above it is not, so that the two round differently
+abbrev pub seen_to_windward : Contact → Option Direction → Bool
+seen_to_windward contact None = false
+seen_to_windward contact (Some from) = le quarter_turn (abs (half_fold (contact.bearing.0 ⊖ reciprocal from.0)))
+
+abbrev pub wind_of : Contact → Option Direction → Wind
+wind_of contact from = record { windward = windward_of contact from; seen_to_windward = seen_to_windward contact from }
 
 unfoldable pub geometry_of : Situation → Geometry
 geometry_of s = record {
@@ -56,6 +68,6 @@ geometry_of s = record {
   target_speed = s.target.motion.speed;
   own = s.own.category;
   target = s.target.category;
-  windward = windward_of s.contact s.wind_from;
+  wind = wind_of s.contact s.wind_from;
   visibility = s.visibility;
 }

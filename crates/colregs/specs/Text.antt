@@ -23,6 +23,7 @@ use Rattle.situation.specs.declared.party.Visibility.TheVariants.{InSight, Restr
 use Rattle.situation.specs.declared.config.ColregsConfig.{ColregsConfig}
 use Rattle.situation.specs.Arguments.{quarter_turn}
 use Rattle.colregs.specs.declared.geometry.Windward.{Windward}
+use Rattle.colregs.specs.declared.geometry.Wind.{Wind}
 use Rattle.colregs.specs.declared.geometry.Geometry.{Geometry}
 use Rattle.colregs.specs.declared.answer.Responsibility.{Responsibility}
 use Rattle.colregs.specs.declared.answer.Responsibility.TheVariants.{GiveWay, StandOn, Both, Undetermined}
@@ -146,26 +147,24 @@ code Undetermined = 3
 abbrev pub either_way : Responsibility → Responsibility → Responsibility
 either_way a b = cond (eqb (code a) (code b)) a Undetermined
 
--- (iii) the wind on own port side and a vessel to windward whose tack is not known: own vessel keeps
+-- (iii) the wind on own port side, and one seen to windward whose tack is not known: own vessel keeps
 -- out of the way
-abbrev pub to_windward : Windward → Responsibility → Responsibility
-to_windward Windward.Target rest = GiveWay
-to_windward Windward.Own rest = rest
-to_windward Windward.Unknown rest = rest
+abbrev pub to_windward : Bool → Responsibility → Responsibility
+to_windward seen rest = cond seen GiveWay rest
 
 -- (i) the wind on different sides: the one with the wind on her port side keeps out of the way
-abbrev pub tacks : Tack → Tack → Windward → Responsibility
+abbrev pub tacks : Tack → Tack → Wind → Responsibility
 tacks Tack.Port Tack.Starboard w = GiveWay
 tacks Tack.Starboard Tack.Port w = StandOn
-tacks Tack.Port Tack.Port w = same_side w
-tacks Tack.Starboard Tack.Starboard w = same_side w
-tacks Tack.Port Tack.Unknown w = to_windward w (either_way (same_side w) GiveWay)
-tacks Tack.Starboard Tack.Unknown w = either_way StandOn (same_side w)
-tacks Tack.Unknown Tack.Port w = either_way (same_side w) StandOn
-tacks Tack.Unknown Tack.Starboard w = either_way GiveWay (same_side w)
+tacks Tack.Port Tack.Port w = same_side w.windward
+tacks Tack.Starboard Tack.Starboard w = same_side w.windward
+tacks Tack.Port Tack.Unknown w = to_windward w.seen_to_windward (either_way (same_side w.windward) GiveWay)
+tacks Tack.Starboard Tack.Unknown w = either_way StandOn (same_side w.windward)
+tacks Tack.Unknown Tack.Port w = either_way (same_side w.windward) StandOn
+tacks Tack.Unknown Tack.Starboard w = either_way GiveWay (same_side w.windward)
 tacks Tack.Unknown Tack.Unknown w = Undetermined
 
-abbrev pub sailing_by12 : Bool → Tack → VesselCategory → Windward → Option Asks
+abbrev pub sailing_by12 : Bool → Tack → VesselCategory → Wind → Option Asks
 sailing_by12 closing own (Sailing other) w = cond closing (freely (tacks own other w)) None
 sailing_by12 closing own PowerDriven w = None
 sailing_by12 closing own Fishing w = None
@@ -173,7 +172,7 @@ sailing_by12 closing own ConstrainedByDraught w = None
 sailing_by12 closing own RestrictedInAbilityToManoeuvre w = None
 sailing_by12 closing own NotUnderCommand w = None
 
-abbrev pub by12 : Bool → VesselCategory → VesselCategory → Windward → Option Asks
+abbrev pub by12 : Bool → VesselCategory → VesselCategory → Wind → Option Asks
 by12 closing (Sailing own) other w = sailing_by12 closing own other w
 by12 closing PowerDriven other w = None
 by12 closing Fishing other w = None
@@ -214,7 +213,7 @@ by19 t = cond t.closing (Some (asks Both (t.forward || not t.to_starboard) (cond
 
 -- ---- the order: vessels not in sight of one another, Rule 19; else Rule 13 'notwithstanding', then
 -- 18 'except where Rule 13 requires otherwise', then the others
-abbrev pub paragraphs : Visibility → VesselCategory → VesselCategory → Windward → Terms → List (Option Asks)
+abbrev pub paragraphs : Visibility → VesselCategory → VesselCategory → Wind → Terms → List (Option Asks)
 paragraphs Restricted own other w t = by19 t ∷ []
 paragraphs InSight own other w t =
     by13 t ∷ by18 own other ∷ by12 t.closing own other w ∷ by14 own other t ∷ by15 own other t ∷ by17 own other t ∷ []
@@ -228,4 +227,4 @@ first_asked [] = asks Undetermined true true
 first_asked (p ∷ ps) = or_next p (first_asked ps)
 
 unfoldable pub text : ColregsConfig → Geometry → Asks
-text config f = first_asked (paragraphs f.visibility f.own f.target f.windward (terms config f))
+text config f = first_asked (paragraphs f.visibility f.own f.target f.wind (terms config f))

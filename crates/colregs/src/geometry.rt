@@ -17,6 +17,14 @@ pub(crate) enum Windward {
     Target,
 }
 
+// What the wind says of two vessels under sail, for Rule 12(a)(ii) and (iii): which of them is to
+// windward, and whether own craft sees the other to windward.
+#[derive(Clone, Copy)]
+pub(crate) struct Wind {
+    pub windward: Windward,
+    pub seen_to_windward: bool,
+}
+
 // `relative` is the target off own bow, `aspect` own craft off the target's, in degrees, positive
 // to starboard.
 #[derive(Clone, Copy)]
@@ -28,7 +36,7 @@ pub(crate) struct Geometry {
     pub target_speed: Speed,
     pub own: VesselCategory,
     pub target: VesselCategory,
-    pub windward: Windward,
+    pub wind: Wind,
     pub visibility: Visibility,
 }
 
@@ -68,7 +76,8 @@ fn is_closing(contact: Contact, own: Vessel, target: Vessel) -> bool
     rate < 0.0 && !tangential
 }
 
-// Own craft is to windward if the other lies within 90 degrees of where the wind blows to.
+// Rule 12(a)(ii): own craft is to windward if the other lies within 90 degrees of where the wind
+// blows to.
 fn windward_of(contact: Contact, wind: Option<Direction>) -> Windward
     ensures { result ≡ Spec.windward_of contact wind }
 {
@@ -80,6 +89,27 @@ fn windward_of(contact: Contact, wind: Option<Direction>) -> Windward
             Windward::Target
         }
     })
+}
+
+// Rule 12(a)(iii), request R-2: own craft sees the other to windward if she lies 90 degrees or more
+// from where the wind blows to. The direction is folded before the difference is taken, and above,
+// as in rules.rs, it is not: the two round differently.
+fn seen_to_windward(contact: Contact, wind: Option<Direction>) -> bool
+    ensures { result ≡ Spec.seen_to_windward contact wind }
+{
+    wind.map_or(false, |from| {
+        let downwind = math::angle::reciprocal(from.0);
+        math::abs(math::angle::wrap180(contact.bearing.0 - downwind)) >= 90.0
+    })
+}
+
+fn wind_of(contact: Contact, wind: Option<Direction>) -> Wind
+    ensures { result ≡ Spec.wind_of contact wind }
+{
+    Wind {
+        windward: windward_of(contact, wind),
+        seen_to_windward: seen_to_windward(contact, wind),
+    }
 }
 
 // The geometry of a situation, from the bearing, the headings and the velocities.
@@ -95,7 +125,7 @@ pub(crate) fn geometry_of(s: Situation) -> Geometry
         target_speed: s.target.motion.speed,
         own: s.own.category,
         target: s.target.category,
-        windward: windward_of(s.contact, s.wind_from),
+        wind: wind_of(s.contact, s.wind_from),
         visibility: s.visibility,
     }
 }

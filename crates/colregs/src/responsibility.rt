@@ -5,7 +5,7 @@ ghost use Rattle.colregs.specs.Colregs as Spec;
 ghost use Rattle.colregs.specs.Said as Says;
 
 use crate::answer::{Decision, Encounter, Responsibility, Rule};
-use crate::geometry::{Geometry, Windward};
+use crate::geometry::{Geometry, Wind, Windward};
 use motion::side::Side;
 use situation::party::{Tack, VesselCategory, Visibility};
 use std::cmp::Ordering;
@@ -21,15 +21,27 @@ fn windward_gives_way(windward: Windward) -> Responsibility
     }
 }
 
+// Rule 12(a)(iii), request R-2: on the port tack own craft keeps out of the way of one that she sees
+// to windward and whose tack she does not know.
+fn port_tack_keeps_clear(seen_to_windward: bool) -> Responsibility
+    ensures { result ≡ Spec.port_tack_keeps_clear seen_to_windward }
+{
+    if seen_to_windward {
+        return Responsibility::GiveWay;
+    }
+    Responsibility::Undetermined
+}
+
 // Rule 12: two sailing vessels.
-fn sailing_vessels(own: Tack, target: Tack, windward: Windward) -> Responsibility
-    ensures { result ≡ Spec.sailing_vessels own target windward }
+fn sailing_vessels(own: Tack, target: Tack, wind: Wind) -> Responsibility
+    ensures { result ≡ Spec.sailing_vessels own target wind }
 {
     match (own, target) {
         (Tack::Port, Tack::Starboard) => Responsibility::GiveWay,
         (Tack::Starboard, Tack::Port) => Responsibility::StandOn,
+        (Tack::Port, Tack::Unknown) => port_tack_keeps_clear(wind.seen_to_windward),
         (Tack::Unknown, _) | (_, Tack::Unknown) => Responsibility::Undetermined,
-        _ => windward_gives_way(windward),
+        _ => windward_gives_way(wind.windward),
     }
 }
 
@@ -58,12 +70,12 @@ fn one_rank(e: Encounter) -> Decision
 
 // Rule 12, where both sail.
 fn both_sailing(f: Geometry) -> Option<Decision>
-    ensures { result ≡ Says.said Rule.Rule12 (Spec.rule12 f.own f.target f.windward) }
+    ensures { result ≡ Says.said Rule.Rule12 (Spec.rule12 f.own f.target f.wind) }
 {
     match (f.own, f.target) {
         (VesselCategory::Sailing { tack: on }, VesselCategory::Sailing { tack: other }) => Some(
             Decision {
-                responsibility: sailing_vessels(on, other, f.windward),
+                responsibility: sailing_vessels(on, other, f.wind),
                 rule: Rule::Rule12,
             },
         ),
@@ -74,7 +86,7 @@ fn both_sailing(f: Geometry) -> Option<Decision>
 // Rule 18, and between vessels of one rank Rules 12, 14, 15 and 17.
 #[tactic(auto, using(crate::proofs::ResponsibilityCode::lower, crate::proofs::ResponsibilityCode::higher, crate::proofs::ResponsibilityCode::equal))]
 fn ranks_first(e: Encounter, f: Geometry) -> Decision
-    ensures { result ≡ Spec.decided (Spec.ranks_first e f.own f.target f.windward) }
+    ensures { result ≡ Spec.decided (Spec.ranks_first e f.own f.target f.wind) }
 {
     let responsibility = match f.own.precedence().cmp(&f.target.precedence()) {
         Ordering::Less => Responsibility::GiveWay,
@@ -89,7 +101,7 @@ fn ranks_first(e: Encounter, f: Geometry) -> Decision
 
 // Rule 13 before the others.
 fn responsibility_of(e: Encounter, f: Geometry) -> Decision
-    ensures { result ≡ Spec.unless_silent (Spec.rule13 e) Rule.Rule13 (Spec.decided (Spec.ranks_first e f.own f.target f.windward)) }
+    ensures { result ≡ Spec.unless_silent (Spec.rule13 e) Rule.Rule13 (Spec.decided (Spec.ranks_first e f.own f.target f.wind)) }
 {
     let responsibility = match e {
         Encounter::Overtaking => Responsibility::GiveWay,

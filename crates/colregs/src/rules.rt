@@ -3,6 +3,7 @@
 // colregs/specs/Colregs.antt has the rules, one definition each.
 ghost use Rattle.std.specs.Prelude.{◌≡◌};
 ghost use Rattle.colregs.specs.Colregs as Spec;
+ghost use Rattle.colregs.specs.Before.{ToWindward};
 
 use crate::answer::{Decision, Encounter, PermittedManoeuvre, Responsibility, Rule, Ruling};
 use crate::encounter;
@@ -117,7 +118,8 @@ fn ruling_of(config: ColregsConfig, f: Geometry) -> Ruling
 // The ruling on a situation. Arguments are checked in document 01's order: own craft, the contact,
 // the target, the wind, the widths.
 pub fn rule_of_the_road(s: Situation, config: ColregsConfig) -> Result<Ruling, Refusal>
-    ensures { result ≡ Spec.ruling_answer s config }
+    ensures is { result ≡ Spec.ruling_answer s config }
+    ensures property { ToWindward s config result }
 {
     check::check_situation(s)?;
     check::check_config(config)?;
