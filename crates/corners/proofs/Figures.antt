@@ -21,12 +21,13 @@ use Rattle.math.specs.declared.duration.Duration.{Duration}
 use Rattle.motion.specs.declared.side.BySide.{BySide}
 use Rattle.assessment.specs.declared.policy.CpaPolicy.{CpaPolicy}
 use Rattle.assessment.specs.Risk.{rank}
-use Rattle.situation.specs.declared.party.VesselCategory.TheVariants.{PowerDriven}
+use Rattle.situation.specs.declared.party.Tack.TheVariants as Tack
+use Rattle.situation.specs.declared.party.VesselCategory.TheVariants.{PowerDriven, Sailing}
 use Rattle.situation.specs.declared.party.Party.{Party}
 use Rattle.situation.specs.declared.party.Situation.{Situation}
 use Rattle.situation.specs.declared.party.Visibility.TheVariants.{InSight}
 use Rattle.situation.specs.declared.config.ColregsConfig.{ColregsConfig}
-use Rattle.situation.specs.Situation.{party, situation}
+use Rattle.situation.specs.Situation.{party, situation, with_wind_from}
 use Rattle.colregs.specs.declared.answer.Encounter.{Encounter}
 use Rattle.colregs.specs.declared.answer.Responsibility.{Responsibility}
 use Rattle.colregs.specs.declared.answer.Rule.{Rule}
@@ -39,7 +40,7 @@ use Rattle.manoeuvre.specs.Constraints.{with_rate_of_turn}
 use Rattle.clearance.specs.declared.traffic.Entry.{Entry}
 use Rattle.ruled_search.specs.declared.RuledManoeuvre.{RuledManoeuvre}
 use Rattle.ruled_search.specs.Ruled.{ruled_answer}
-use Rattle.colregs.proofs.Rows.{number, direction, vessel, contact, power}
+use Rattle.colregs.proofs.Rows.{number, direction, vessel, contact, a, power}
 
 -- ---- arguments
 abbrev pub bits : ℕ → Float
@@ -84,6 +85,11 @@ on course speed = party (steering course speed) PowerDriven
 
 abbrev pub off : ℕ → Party → Situation
 off bearing target = situation (power 0 10) target (contact (record { 0 = bits bearing }) 5) InSight
+
+-- own craft under sail on the port tack, and beside her at the same velocity one whose tack is not known; the wind
+abbrev pub unsure : ℕ → ℕ → Situation
+unsure bearing from =
+    with_wind_from (situation (a (Sailing Tack.Port) 0 5) (a (Sailing Tack.Unknown) 0 5) (contact (record { 0 = bits bearing }) 2) InSight) (direction from)
 
 abbrev pub widths : ℕ → ℕ → ColregsConfig
 widths overtaking head_on = record { overtaking_abaft_beam = record { 0 = number overtaking }; head_on_half_width = record { 0 = number head_on } }

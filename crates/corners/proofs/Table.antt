@@ -15,7 +15,7 @@ use Rattle.math.specs.Cast.{to_usize}
 use Rattle.math.specs.Convert.{degrees_per_radian, to_degrees, to_radians}
 use Rattle.math.specs.Sign.{abs}
 use Rattle.math.specs.Test.{is_effectively_zero}
-use Rattle.math.specs.Fold.{half_fold, whole_fold}
+use Rattle.math.specs.Fold.{half_fold, reciprocal, whole_fold}
 use Rattle.math.specs.Fold as folds
 use Rattle.math.specs.Clock.{clock, from_hours, from_seconds, hours_of, is_accepted, is_before, nanos_in}
 use Rattle.text.specs.Thousandths.{thousandths_of}
@@ -76,7 +76,7 @@ use Rattle.colregs.proofs.Rows.{direction, heads, number, power, refuses, rules,
 use Rattle.avoidance.specs.Avoid.{avoid_answer, avoid_checks, avoided, seed, seeded_choice, seeded_side}
 use Rattle.report.specs.Contacts.{contact_lines, line_of}
 use Rattle.report.specs.Report.{search_answer, constraints_of, id_at, lines_of, policy_of, report}
-use Rattle.corners.proofs.Figures.{ahead, alteration_in, at, away, between, bits, closing, course_in, degrees, drift_in, kind, limiting_in, limits, magnitude_in, meets, miles, moving, north, off, on, passing_in, pattern, port_in, risk_in, ruling, searched, seconds, sheet, side_code, side_in, spelled, starboard_in, steering, time_in, turn, turning, widths, with_rate, within}
+use Rattle.corners.proofs.Figures.{ahead, alteration_in, at, away, between, bits, closing, course_in, degrees, drift_in, kind, limiting_in, limits, magnitude_in, meets, miles, moving, north, off, on, passing_in, pattern, port_in, risk_in, ruling, searched, seconds, sheet, side_code, side_in, spelled, starboard_in, steering, time_in, turn, turning, unsure, widths, with_rate, within}
 
 -- document 01's sample sheet: the header's words, and the contact's
 abbrev sample_header : List ℕ
@@ -91,6 +91,10 @@ sailing_header = 0x0000_0000 ∷ 0x1000_2800 ∷ 0x2000_0002 ∷ 0x3000_0000 ∷
 
 abbrev sailing_contact : List ℕ
 sailing_contact = 0x9000_0001 ∷ 0xA001_6800 ∷ 0xB000_1000 ∷ 0xC000_0000 ∷ 0xD000_2800 ∷ 0xE000_0002 ∷ []
+
+-- the same contact, her tack not known (request R-2)
+abbrev unknown_contact : List ℕ
+unknown_contact = 0x9000_0001 ∷ 0xA001_6800 ∷ 0xB000_1000 ∷ 0xC000_0000 ∷ 0xD000_2800 ∷ 0xE000_0001 ∷ []
 
 -- what a line says; what is printed on a sheet of words
 abbrev says : List ℕ → String → Row
@@ -145,6 +149,13 @@ table =
     -- 'restricted visibility, relative 90: not forward of the beam, so port only'
     ∷ rules (unseen (power 0 10) 90 5 (power 270 10)) (Crossing Starboard) Both Rule19 false true true false
     ∷ rules (unseen (power 0 10) 89 5 (power 270 10)) (Crossing Starboard) Both Rule19 true false true false
+    -- request R-2, Rule 12(a)(iii): bearing and wind 270/270, 180/270, 0/270; 90/270, and 180 less an ulp; 60 and 5 ulps, from 330
+    ∷ rules (unsure 0x4070_e000_0000_0000 270) (Crossing Port) GiveWay Rule12 true true true false
+    ∷ rules (unsure 0x4066_8000_0000_0000 270) (Crossing Starboard) GiveWay Rule12 true true true false
+    ∷ rules (unsure 0 270) (Crossing Port) GiveWay Rule12 true true true false
+    ∷ rules (unsure 0x4056_8000_0000_0000 270) (Crossing Starboard) Undetermined Rule12 true true true false
+    ∷ rules (unsure 0x4066_7fff_ffff_ffff 270) (Crossing Starboard) Undetermined Rule12 true true true false
+    ∷ rules (unsure 0x404e_0000_0000_0005 330) (Crossing Starboard) GiveWay Rule12 true true true false
     -- the example of refusal 12, with either width, and the order: own, contact, target, wind, widths
     ∷ refuses (seen (power 0 10) 45 5 (power 270 10)) (widths 91 6) 12
     ∷ refuses (seen (power 0 10) 45 5 (power 270 10)) (widths 22 91) 12
@@ -213,13 +224,15 @@ table =
     ∷ prints (sample_header ++ (0x9000_0007 ∷ [])) "REFUSED 15\n"
     ∷ prints (sample_contact ++ sample_header) "REFUSED 15\n"
     ∷ prints (sample_header ++ (0x9000_0007 ∷ 0xA000_0000 ∷ 0xB000_1000 ∷ 0xC000_0000 ∷ 0xD000_0000 ∷ 0xE000_0008 ∷ [])) "REFUSED 16\n"
-    -- the wind: power-driven vessels take no notice; on one tack the one to windward keeps clear, from 90 degrees off the line of sight; 360 is refused, after the limits and before the contacts; the word stands at its place, once
+    -- the wind: power-driven vessels take no notice; on one tack the one to windward keeps clear, from 90 degrees off the line of sight; of one whose tack is not known the port tack keeps clear where she is to windward (request R-2); 360 is refused, after the limits and before the contacts; the word stands at its place, once
     ∷ prints (sample_header ++ (0xF001_6800 ∷ sample_contact)) "CONTACT 7 CLOSING 0.000 1440 DANGEROUS OVERTAKING GIVEWAY 13\nALTER S 15.000 15.000 1.035 7\n"
     ∷ prints (sample_header ++ (0xF000_0000 ∷ [])) "ALTER S 0.000 0.000 FREE NONE\n"
     ∷ prints (sailing_header ++ sailing_contact) "CONTACT 1 STATIONARY 4.000 - OPENING CROSSING-S UNDETERMINED 12\nALTER S 0.000 0.000 4.000 1\n"
     ∷ prints (sailing_header ++ (0xF001_6800 ∷ sailing_contact)) "CONTACT 1 STATIONARY 4.000 - OPENING CROSSING-S STANDON 12\nALTER S 0.000 0.000 4.000 1\n"
     ∷ prints (sailing_header ++ (0xF000_0000 ∷ sailing_contact)) "CONTACT 1 STATIONARY 4.000 - OPENING CROSSING-S STANDON 12\nALTER S 0.000 0.000 4.000 1\n"
     ∷ prints (sailing_header ++ (0xF005_9FFF ∷ sailing_contact)) "CONTACT 1 STATIONARY 4.000 - OPENING CROSSING-S GIVEWAY 12\nALTER S 0.000 0.000 4.000 1\n"
+    ∷ prints (sailing_header ++ (0xF001_6800 ∷ unknown_contact)) "CONTACT 1 STATIONARY 4.000 - OPENING CROSSING-S GIVEWAY 12\nALTER S 0.000 0.000 4.000 1\n"
+    ∷ prints (sailing_header ++ (0xF004_3800 ∷ unknown_contact)) "CONTACT 1 STATIONARY 4.000 - OPENING CROSSING-S UNDETERMINED 12\nALTER S 0.000 0.000 4.000 1\n"
     ∷ prints (sailing_header ++ (0xF005_A000 ∷ sailing_contact)) "REFUSED 1\n"
     ∷ prints (sailing_header ++ (0xF005_A000 ∷ 0x9000_0001 ∷ 0xA001_6800 ∷ 0xBFFF_FFFF ∷ 0xC000_0000 ∷ 0xD000_2800 ∷ 0xE000_0002 ∷ [])) "REFUSED 1\n"
     ∷ prints (sample_header ++ (0xF001_6800 ∷ 0xF001_6800 ∷ sample_contact)) "REFUSED 15\n"
@@ -237,5 +250,5 @@ table =
     ∷ []
 
 pub holds : every table ≡ true
-unfolding abaft abs add along alter_line altered angle_steps search_answer answered approach approach_from arcsine.arcsine_steps arcsine.arcsine_units arcsine.at_most arcsine.fits_in arcsine.rest arcsine.rest_step arcsine.scale arcsine.scale_from arcsine.upper_steps arctangent_steps asin.asin asin.in_domain aspect_of assess_answer assessment at_speed atan2 avoid_answer avoid_checks avoidance_of avoided both_finite bow_answer bytes category_checks category_of choice search choice_of circular.from_units circular.in_domain circular.scaled clamped clearing clears clock closest closing_rate code_checks constraint_checks constraints_answer constraints_of contact_count contact_line contact_lines contacts_checks cos cosine_divisors cosine_step cosine_units course_answer course_for cpa_answer crossing decided decimal_of degrees_per_radian determinant difference digits_up_to direction_of distance div drift_of drift_per_hour encounter_checks encounter_of entry_checks entry_of eq even geometry_of first first_rows flat_map floor_of fold folds.turned forward_of_beam from_hours from_seconds grazing greatest greatest_to half_fold header_of heading horner hours_of hypot hypots.in_domain id_at in_both in_order in_range is_accepted is_before is_closing is_direction is_distance is_effectively_zero is_head_on is_speed is_width nearer larger last layout le line_of lines_of lt manoeuvres.manoeuvre manoeuvres.side_of manoeuvres.turned mul nanos_in neg negative not_above octant of_bits of_int offered offset or_first ordered own_comes_up own_of own_overtakes party party_checks party_of contact_clears permitted placed plot_answer plot_checks plot_verdict plots.target_of policy_answer policy_of rule17_port rule19_port quarters range_rate readable refused_line relative_motion relative_of relative_speed relative_velocity rem removed report resolved rest risk_at round row_from rows_of rule18 ruled ruled_answer ruled_checks ruling_answer ruling_for ruling_of scaled_by seed seeded_choice seeded_side shared_sides sheet_verdict side_choice side_of sides_of sin sine_divisors sine_step sine_units situation situation_checks size solution solved speed_of spelled sqrt square rule19_starboard sub table tally target_comes_up target_of target_overtakes thousandths_of three_decimals time_of time_to_go to_bits to_degrees to_radians to_unsigned to_usize trial trial_clears trials trials_from turned_minus turned_units unit units_of up_to value_checks values.scaled velocity verdict vessel_of visibility_of whole_fold wind_from with_heading with_rate_of_turn with_wind_from words
+unfolding abaft abs add along alter_line altered angle_steps search_answer answered approach approach_from arcsine.arcsine_steps arcsine.arcsine_units arcsine.at_most arcsine.fits_in arcsine.rest arcsine.rest_step arcsine.scale arcsine.scale_from arcsine.upper_steps arctangent_steps asin.asin asin.in_domain aspect_of assess_answer assessment at_speed atan2 avoid_answer avoid_checks avoidance_of avoided both_finite bow_answer bytes category_checks category_of choice search choice_of circular.from_units circular.in_domain circular.scaled clamped clearing clears clock closest closing_rate code_checks constraint_checks constraints_answer constraints_of contact_count contact_line contact_lines contacts_checks cos cosine_divisors cosine_step cosine_units course_answer course_for cpa_answer crossing decided decimal_of degrees_per_radian determinant difference digits_up_to direction_of distance div drift_of drift_per_hour encounter_checks encounter_of entry_checks entry_of eq even geometry_of first first_rows flat_map floor_of fold folds.turned forward_of_beam from_hours from_seconds grazing greatest greatest_to half_fold reciprocal header_of heading horner hours_of hypot hypots.in_domain id_at in_both in_order in_range is_accepted is_before is_closing is_direction is_distance is_effectively_zero is_head_on is_speed is_width nearer larger last layout le line_of lines_of lt manoeuvres.manoeuvre manoeuvres.side_of manoeuvres.turned mul nanos_in neg negative not_above octant of_bits of_int offered offset or_first ordered own_comes_up own_of own_overtakes party party_checks party_of contact_clears permitted placed plot_answer plot_checks plot_verdict plots.target_of policy_answer policy_of rule17_port rule19_port quarters range_rate readable refused_line relative_motion relative_of relative_speed relative_velocity rem removed report resolved rest risk_at round row_from rows_of rule18 ruled ruled_answer ruled_checks ruling_answer ruling_for ruling_of scaled_by seed seeded_choice seeded_side shared_sides sheet_verdict side_choice side_of sides_of sin sine_divisors sine_step sine_units situation situation_checks size solution solved speed_of spelled sqrt square rule19_starboard sub table tally target_comes_up target_of target_overtakes thousandths_of three_decimals time_of time_to_go to_bits to_degrees to_radians to_unsigned to_usize trial trial_clears trials trials_from turned_minus turned_units unit units_of up_to value_checks values.scaled velocity verdict vessel_of visibility_of whole_fold wind_from with_heading with_rate_of_turn with_wind_from words
 holds = refl
