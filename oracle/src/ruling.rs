@@ -1,5 +1,5 @@
 //! The ruling: the port's `rule_of_the_road` against rules.rs on the port's elementary functions, behind document 01's argument
-//! checks.
+//! checks, and with request R-2 (`kinavis/to_windward.rs`).
 
 use std::collections::BTreeMap;
 
@@ -97,6 +97,11 @@ impl Case {
     }
 }
 
+/// Two vessels under sail at one velocity, own craft on the port tack, the target's tack unknown.
+const fn unsure(bearing: f64, wind: f64) -> Case {
+    meeting(0.0, 5.0, bearing, 2.0, 0.0, 5.0).of(PORT_TACK, TACK_UNKNOWN).wind_from(wind)
+}
+
 /// Document 01's corners of rules.rs and examples of refusals, with what the ruling is.
 const CORNERS: &[(Case, &str)] = &[
     (meeting(0.0, 20.0, 0.0, 5.0, 67.5, 10.0), "crossing to port"),
@@ -112,7 +117,6 @@ const CORNERS: &[(Case, &str)] = &[
     (meeting(0.0, 10.0, 5e-324, 5.0, 180.0, 10.0).config(22.5, 0.0), "crossing to port"),
     (meeting(0.0, 10.0, 90.0, 5.0, 270.0, 10.0).restricted(), "not starboard, port"),
     (meeting(0.0, 10.0, 89.99999999999999, 5.0, 270.0, 10.0).restricted(), "starboard, not port"),
-    (meeting(0.0, 5.0, 90.0, 2.0, 270.0, 5.0).of(PORT_TACK, TACK_UNKNOWN).wind_from(90.0), "undetermined, Rule 12"),
     (meeting(0.0, 5.0, 90.0, 2.0, 270.0, 5.0).of(TACK_UNKNOWN, STARBOARD_TACK).wind_from(90.0), "undetermined, Rule 12"),
     (meeting(360.0, 10.0, 0.0, 5.0, 90.0, 10.0), "refused with 1"),
     (meeting(0.0, 1000.5, 0.0, -1.0, 90.0, 10.0), "refused with 2"),
@@ -121,6 +125,25 @@ const CORNERS: &[(Case, &str)] = &[
     (meeting(0.0, 10.0, 0.0, -1.0, 90.0, 10.0).own_heads(360.0), "refused with 1"),
     (meeting(0.0, 10.0, 0.0, 5.0, 90.0, 10.0).target_heads(360.0).config(91.0, 6.0), "refused with 1"),
     (meeting(0.0, 10.0, 0.0, 5.0, 90.0, 10.0).wind_from(360.0).config(91.0, 6.0), "refused with 1"),
+];
+
+/// Request R-2's rows, and others of document 01 and docs/DIFFERENCES.md that it speaks of.
+const TO_WINDWARD: &[(Case, &str)] = &[
+    (unsure(270.0, 270.0), "give way, Rule 12, starboard, port, not hold"),
+    (unsure(180.0, 270.0), "give way, Rule 12"),
+    (unsure(0.0, 270.0), "give way, Rule 12"),
+    (unsure(90.0, 270.0), "undetermined, Rule 12, starboard, port, not hold"),
+    (unsure(179.99999999999997, 270.0), "undetermined, Rule 12"),
+    (unsure(60.000000000000036, 330.0), "give way, Rule 12"),
+    (unsure(270.0, 270.0).restricted(), "both, Rule 19"),
+    (unsure(270.0, 360.0), "refused with 1"),
+    (meeting(0.0, 5.0, 270.0, 2.0, 0.0, 5.0).of(PORT_TACK, TACK_UNKNOWN), "undetermined, Rule 12"),
+    (meeting(0.0, 5.0, 270.0, 2.0, 0.0, 5.0).of(STARBOARD_TACK, TACK_UNKNOWN).wind_from(270.0), "undetermined, Rule 12"),
+    (meeting(0.0, 5.0, 270.0, 2.0, 0.0, 5.0).of(TACK_UNKNOWN, TACK_UNKNOWN).wind_from(270.0), "undetermined, Rule 12"),
+    (meeting(0.0, 5.0, 270.0, 2.0, 0.0, 5.0).of(PORT_TACK, 0).wind_from(270.0), "stand on, Rule 18"),
+    (meeting(0.0, 5.0, 90.0, 2.0, 270.0, 5.0).of(PORT_TACK, TACK_UNKNOWN).wind_from(90.0), "give way, Rule 12"),
+    (meeting(0.0, 5.0, 270.0, 2.0, 45.0, 5.0).of(PORT_TACK, TACK_UNKNOWN).wind_from(270.0), "crossing to port, give way, Rule 12"),
+    (meeting(0.0, 5.0, 0.0, 2.0, 0.0, 2.0).of(PORT_TACK, TACK_UNKNOWN).wind_from(0.0), "overtaking, give way, Rule 13"),
 ];
 
 /// The inputs of docs/DIFFERENCES.md, 'The Rust against COLREGs', in that order, with what it says of the ruling.
@@ -136,7 +159,6 @@ const DEPARTURES: &[(Case, &str)] = &[
     (meeting(0.0, 10.0, 45.0, 5.0, 45.0, 20.0), "give way, Rule 15"),
     (meeting(0.0, 10.0, 0.0, 2.0, 0.0, 10.0), "stand on, Rule 17"),
     (meeting(180.0, 5.0, 0.0, 2.0, 0.0, 5.0).own_heads(0.0).target_heads(180.0), "head-on, both, Rule 14"),
-    (meeting(0.0, 5.0, 270.0, 2.0, 45.0, 5.0).of(PORT_TACK, TACK_UNKNOWN).wind_from(270.0), "undetermined, Rule 12"),
     (meeting(0.0, 5.0, 270.0, 2.0, 45.0, 5.0).of(PORT_TACK, TACK_UNKNOWN).wind_from(90.0), "undetermined, Rule 12"),
     (meeting(0.0, 5.0, 45.0, 5.0, 270.0, 10.0).of(FISHING, 0), "crossing to starboard, stand on, Rule 18, not port"),
     (meeting(0.0, 10.0, 0.0, 5.0, 270.0, 10.0), "give way, Rule 15"),
@@ -147,6 +169,8 @@ const DEPARTURES: &[(Case, &str)] = &[
     (meeting(0.0, 5.0, 90.0, 2.0, 0.0, 5.0).of(STARBOARD_TACK, STARBOARD_TACK).wind_from(0.0), "stand on"),
     (meeting(0.0, 5.0, 270.0, 2.0, 0.0, 5.0).of(STARBOARD_TACK, STARBOARD_TACK).wind_from(0.0), "stand on"),
     (meeting(0.0, 5.0, 90.0, 2.0, 0.0, 5.0).of(STARBOARD_TACK, STARBOARD_TACK), "undetermined"),
+    (unsure(90.0, 0.0), "give way, Rule 12"),
+    (unsure(270.0, 0.0), "give way, Rule 12"),
     (meeting(0.0, 20.0, 0.0, 5.0, 67.5, 10.0), "crossing to port, stand on, Rule 17"),
     (meeting(0.0, 20.0, 310.0, 1.0, 0.0, 10.0), "overtaking, give way"),
     (meeting(0.0, 20.0, 280.0, 1.0, 0.0, 10.0), "crossing to port, stand on, Rule 17"),
@@ -159,9 +183,9 @@ const DEPARTURES: &[(Case, &str)] = &[
     (meeting(0.0, 10.0, 0.0, 5.0, 180.0, 10.0).own_heads(90.0), "crossing to port, stand on, Rule 17"),
 ];
 
-/// The corners, then the departures.
+/// The corners, then the departures, then request R-2's.
 fn stated() -> impl Iterator<Item = &'static (Case, &'static str)> {
-    CORNERS.iter().chain(DEPARTURES)
+    CORNERS.iter().chain(DEPARTURES).chain(TO_WINDWARD)
 }
 
 /// The parts of an answer, numbered. A refusal has no other one.
@@ -207,7 +231,8 @@ impl Case {
         self.codes & code == code
     }
 
-    /// Document 01's answer: the first bad argument decides, and with none bad the Rust does. It refuses a bad config itself.
+    /// Document 01's answer: the first bad argument decides, and with none bad the Rust does, and request R-2. It refuses a bad config
+    /// itself.
     fn reference(&self) -> RulingWords {
         let mut checked = KINDS.into_iter().zip(self.words());
         match checked.find(|((kind, code), word)| self.is_given(*code) && !is_accepted(*kind, &[*word])) {
@@ -251,7 +276,7 @@ impl Case {
         let [.., mut course, mut speed, mut heading, mut wind, abaft, width] = self.floats;
         let mut codes = self.codes;
         let abeam = any(&[90.0, 270.0], random);
-        match random.below(9) {
+        match random.below(10) {
             // Equal velocities.
             0 => (course, speed) = (own_course, own_speed),
             // Motion across the line of sight: the closing rate is about rounding of zero.
@@ -284,6 +309,11 @@ impl Case {
             6 | 7 => {
                 (bearing, course) = on_grid(own_course, random.below(ANGLES), random.below(ANGLES), (abaft, width));
                 codes &= !(OWN_HEADING | HEADING);
+            }
+            // The port tack, and one whose tack is unknown, the wind square to the line of sight or a few patterns off.
+            8 => {
+                wind = beside(bearing + abeam, random.below(9) as i64 - 4);
+                codes = (codes & !(0o77 | RESTRICTED)) | PORT_TACK | TACK_UNKNOWN << 3 | WIND;
             }
             // Two on one tack, the wind about square to the line of sight.
             _ => {
@@ -380,7 +410,29 @@ fn systematic(i: u64, random: &mut Random) -> Case {
     case
 }
 
-/// Case i of the adversarial ones: the corners and departures, then arguments where something turns, related ones, and one or two
+/// How many patterns a bearing and a wind are put beside 90 degrees apart, to either side, and all that gives.
+const BESIDE: i64 = 4;
+const SQUARE: u64 = 360 * 2 * (2 * BESIDE as u64 + 1).pow(2);
+
+/// Case i of those about 90 degrees from the wind: each whole bearing with the wind on either side of it, and both some patterns beside;
+/// own craft on the port tack, the target's tack unknown, at one velocity. The next so many are on any course at any speed, from any
+/// bearing.
+fn about_square(i: u64, random: &mut Random) -> Case {
+    let each = 2 * BESIDE as u64 + 1;
+    let steps = [i % each, i / each % each].map(|step| step as i64 - BESIDE);
+    let side = if i / each / each % 2 == 0 { 90.0 } else { 270.0 };
+    let degrees = (i / each / each / 2 % 360) as f64;
+    if i < SQUARE {
+        return unsure(beside(degrees, steps[0]), beside(degrees + side, steps[1]));
+    }
+    let mut case = Case::random(random);
+    let bearing = wrap360(random.unit() * 360.0);
+    case.codes = (case.codes & !(0o77 | RESTRICTED)) | PORT_TACK | TACK_UNKNOWN << 3 | WIND;
+    (case.floats[3], case.floats[8]) = (bearing, beside(bearing + side, steps[0]));
+    case
+}
+
+/// Case i of the adversarial ones: the corners, the departures and request R-2's, then arguments where something turns, related ones, and one or two
 /// bad ones.
 fn adversarial(i: u64, random: &mut Random) -> Case {
     if let Some((case, _)) = stated().nth(i as usize) {
@@ -431,14 +483,28 @@ impl Tally {
     }
 }
 
-/// Whether the Rust rules as document 01 and docs/DIFFERENCES.md say.
+/// Whether the Rust, with request R-2, rules as document 01, docs/DIFFERENCES.md and the request say.
 fn compare_stated() -> bool {
     run("rulings as documented", stated().count() as u64, |i, _| {
         let (case, words) = stated().nth(i as usize)?;
         let says: Vec<String> = parts(case.reference()).map(|(part, value)| said(part, value)).collect();
         let missing = words.split(", ").find(|word| !says.iter().any(|said| said == word))?;
-        Some(format!("{:010b} {:?}: the Rust does not say '{missing}' but {says:?}", case.codes, case.floats))
+        Some(format!("{:010b} {:?}: the reference does not say '{missing}' but {says:?}", case.codes, case.floats))
     })
+}
+
+/// Compares the ruling about 90 degrees from the wind, and counts where request R-2 changes it.
+fn compare_to_windward() -> bool {
+    let mut changed = 0;
+    let cases = 2 * SQUARE;
+    let good = run("Rule 12(a)(iii) about 90 degrees", cases, |i, random| {
+        let case = about_square(i, random);
+        let wanted = case.reference();
+        changed += u64::from(wanted[0] == 0 && calls::is_changed(case.codes, case.words()));
+        case.difference(wanted)
+    });
+    println!("Rule 12(a)(iii) about 90 degrees: changed {changed}, as before {}", cases - changed);
+    good
 }
 
 /// Compares the precedence of every category, and the ruling on a fifth of `count` adversarial situations, all systematic ones and
@@ -449,6 +515,7 @@ pub fn compare(count: u64) -> bool {
         (got != wanted).then(|| format!("{code}: {got}, wanted {wanted}"))
     });
     good &= compare_stated();
+    good &= compare_to_windward();
     let mut tally = Tally::default();
     let (first, second) = (count / 5, count / 5 + SYSTEMATIC);
     good &= run("rule_of_the_road", second + count, |i, random| {

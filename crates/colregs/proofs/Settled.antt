@@ -40,7 +40,8 @@ to_windward Windward.Own k = tt
 to_windward Windward.Target k = tt
 to_windward Windward.Unknown k = absurd k
 
-by_tacks_lem : (own target : Tack) (w : Wind) → T (on_tack (Sailing own)) → T (on_tack (Sailing target)) → told w.windward → T (is_settled (sailing_vessels own target w))
+by_tacks_lem : (own target : Tack) (w : Wind) → T (on_tack (Sailing own)) → T (on_tack (Sailing target)) → told w.windward
+    → T (is_settled (sailing_vessels own target w))
 by_tacks_lem Tack.Port Tack.Starboard w a b k = tt
 by_tacks_lem Tack.Starboard Tack.Port w a b k = tt
 by_tacks_lem Tack.Port Tack.Port w a b k = to_windward w.windward k
@@ -110,4 +111,4 @@ settled config s own target wind =
     let f = geometry_of s in
     let e = encounter_of config f in
     or_the_rest (rule19 s.visibility) Rule19 _ (rule19_settles s.visibility)
-    (or_the_rest (rule13 e) Rule13 _ (rule13_settles e) (ranked e (wind_of s.contact s.wind_from) (windward_told s.contact s.wind_from wind) s.own.category s.target.category own target))
+    (or_the_rest (rule13 e) Rule13 _ (rule13_settles e) (ranked e f.wind (windward_told s.contact s.wind_from wind) s.own.category s.target.category own target))

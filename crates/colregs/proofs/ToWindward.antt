@@ -149,7 +149,8 @@ module _ (s : Situation) (config : ColregsConfig) where
   all_three t =
       let h = under there (three f.visibility e f.own f.target f.wind) (same now_here before_here) (is_fine f.visibility e f.own f.target f.wind) t in
       let k = and_r (same now_here clear) _ h in
-      (is_same _ _ (and_l (same now_here clear) _ h), is_same _ _ (and_l (same before_here undetermined) _ k), is_same _ _ (and_r (same before_here undetermined) _ k))
+      let was = same before_here undetermined in
+      (is_same _ _ (and_l (same now_here clear) _ h), is_same _ _ (and_l was _ k), is_same _ _ (and_r was _ k))
 
   elsewhere : T (not there) → now_here ≡ before_here
   elsewhere t =
@@ -175,7 +176,8 @@ module _ (s : Situation) (config : ColregsConfig) where
   keeps_clear_by (Ok tt) t = rw (ruling_is ∙ ap (λ d. ruling_for e d f.relative) (all_three (is_there (Ok tt) t)).0) tt
   keeps_clear_by (Err why) t = elim t [ ]
 
-  rest_by : (v : Result (Unit {0}) Refusal) → T (there_by v) → ruling_if_accepted v (ruling_of config f) ≡ ruling_if_accepted v (Before.ruling_of config (geometry_of (target_on Tack.Starboard s)))
+  rest_by : (v : Result (Unit {0}) Refusal) → T (there_by v)
+      → ruling_if_accepted v (ruling_of config f) ≡ ruling_if_accepted v (Before.ruling_of config (geometry_of (target_on Tack.Starboard s)))
   rest_by v t =
       let three = all_three (is_there v t) in
       ap (ruling_if_accepted v) (ruling_is ∙ ap (λ d. ruling_for e d f.relative) (three.0 ∙ sym three.2) ∙ sym starboard_is)

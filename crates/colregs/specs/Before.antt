@@ -1,5 +1,5 @@
--- Request R-2, Rule 12(a)(iii): the ruling before it, which is the Rust's, with every tack that is not
--- known undetermined; where the request changes it; and what it is there.
+-- Request R-2, Rule 12(a)(iii): the ruling before it, which is the Rust's, undetermined where a
+-- tack is not known; where the request changes it; and what it is there.
 use Rattle.std.specs.Prelude.{◌≡◌, Bool, true, false, ◌&&◌, not, T, eqb, List, ◌∷◌, ◌++◌, Err, Ok}
 use Rattle.std.specs.declared.result.Result.{Result}
 use Rattle.elementary.specs.declared.error.Refusal.{Refusal}

@@ -178,13 +178,13 @@ windward_gives_way Windward.Own = GiveWay
 windward_gives_way Windward.Target = StandOn
 windward_gives_way Windward.Unknown = Undetermined
 
--- (a)(iii) the wind on own port side, and the other's tack unknown: own vessel keeps out of the way of
--- one that she sees to windward (request R-2)
+-- (a)(iii) the wind on own port side, and the other's tack unknown: own vessel keeps out of the way
+-- of one that she sees to windward (request R-2)
 abbrev pub port_tack_keeps_clear : Bool → Responsibility
 port_tack_keeps_clear seen_to_windward = cond seen_to_windward GiveWay Undetermined
 
--- (a)(i) the wind on different sides: the one with the wind on her port side keeps out of the way. A
--- tack that is not known, but for (iii) (departs: undetermined, where either tack would say the same)
+-- (a)(i) the wind on different sides: the one with the wind on her port side keeps out of the way.
+-- Where a tack is not known, but for (iii) (departs: undetermined, also where either says the same)
 abbrev pub sailing_vessels : Tack → Tack → Wind → Responsibility
 sailing_vessels Tack.Port Tack.Starboard w = GiveWay
 sailing_vessels Tack.Starboard Tack.Port w = StandOn

@@ -1,6 +1,6 @@
 -- The facts of a situation that the rules speak of, operation by operation (rules.rs,
--- `geometry_of`, `is_closing`, and the wind in `sailing_vessels`; request R-2). Angles are taken from
--- the headings, closing from the motion.
+-- `geometry_of`, `is_closing`, and the wind in `sailing_vessels`; request R-2). Angles are taken
+-- from the headings, closing from the motion.
 use Rattle.std.specs.Prelude.{Bool, false, ◌&&◌, not, cond, Float, None, Some}
 use Rattle.std.specs.Float.Ieee.{lt, le}
 use Rattle.laws.specs.Ops.{◌⊕◌, ◌⊖◌, ◌⊗◌}
@@ -50,8 +50,8 @@ windward_of contact None = Windward.Unknown
 windward_of contact (Some from) = cond (lt (abs (half_fold (contact.bearing.0 ⊖ (from.0 ⊕ half_turn)))) quarter_turn) Windward.Own Windward.Target
 
 -- Rule 12(a)(iii), request R-2: own craft sees the other to windward, 90 degrees or more from where
--- it blows to, 'the wind's `reciprocal`'. A fact of its own: the direction is folded here before the
--- difference is taken, and above it is not, so that the two round differently
+-- it blows to, 'the wind's `reciprocal`'. A fact of its own: the direction is folded here before
+-- the difference is taken, and above it is not, so that the two round differently
 abbrev pub seen_to_windward : Contact → Option Direction → Bool
 seen_to_windward contact None = false
 seen_to_windward contact (Some from) = le quarter_turn (abs (half_fold (contact.bearing.0 ⊖ reciprocal from.0)))

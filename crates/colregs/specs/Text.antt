@@ -147,8 +147,8 @@ code Undetermined = 3
 abbrev pub either_way : Responsibility → Responsibility → Responsibility
 either_way a b = cond (eqb (code a) (code b)) a Undetermined
 
--- (iii) the wind on own port side, and one seen to windward whose tack is not known: own vessel keeps
--- out of the way
+-- (iii) the wind on own port side, and one seen to windward whose tack is not known: own vessel
+-- keeps out of the way
 abbrev pub to_windward : Bool → Responsibility → Responsibility
 to_windward seen rest = cond seen GiveWay rest
 

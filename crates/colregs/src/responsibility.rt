@@ -21,8 +21,8 @@ fn windward_gives_way(windward: Windward) -> Responsibility
     }
 }
 
-// Rule 12(a)(iii), request R-2: on the port tack own craft keeps out of the way of one that she sees
-// to windward and whose tack she does not know.
+// Rule 12(a)(iii), request R-2: on the port tack own craft keeps out of the way of one that she
+// sees to windward and whose tack she does not know.
 fn port_tack_keeps_clear(seen_to_windward: bool) -> Responsibility
     ensures { result ≡ Spec.port_tack_keeps_clear seen_to_windward }
 {

@@ -93,8 +93,8 @@ abbrev sailing_contact : List ℕ
 sailing_contact = 0x9000_0001 ∷ 0xA001_6800 ∷ 0xB000_1000 ∷ 0xC000_0000 ∷ 0xD000_2800 ∷ 0xE000_0002 ∷ []
 
 -- the same contact, her tack not known (request R-2)
-abbrev unknown_contact : List ℕ
-unknown_contact = 0x9000_0001 ∷ 0xA001_6800 ∷ 0xB000_1000 ∷ 0xC000_0000 ∷ 0xD000_2800 ∷ 0xE000_0001 ∷ []
+abbrev unsure_contact : List ℕ
+unsure_contact = 0x9000_0001 ∷ 0xA001_6800 ∷ 0xB000_1000 ∷ 0xC000_0000 ∷ 0xD000_2800 ∷ 0xE000_0001 ∷ []
 
 -- what a line says; what is printed on a sheet of words
 abbrev says : List ℕ → String → Row
@@ -231,8 +231,8 @@ table =
     ∷ prints (sailing_header ++ (0xF001_6800 ∷ sailing_contact)) "CONTACT 1 STATIONARY 4.000 - OPENING CROSSING-S STANDON 12\nALTER S 0.000 0.000 4.000 1\n"
     ∷ prints (sailing_header ++ (0xF000_0000 ∷ sailing_contact)) "CONTACT 1 STATIONARY 4.000 - OPENING CROSSING-S STANDON 12\nALTER S 0.000 0.000 4.000 1\n"
     ∷ prints (sailing_header ++ (0xF005_9FFF ∷ sailing_contact)) "CONTACT 1 STATIONARY 4.000 - OPENING CROSSING-S GIVEWAY 12\nALTER S 0.000 0.000 4.000 1\n"
-    ∷ prints (sailing_header ++ (0xF001_6800 ∷ unknown_contact)) "CONTACT 1 STATIONARY 4.000 - OPENING CROSSING-S GIVEWAY 12\nALTER S 0.000 0.000 4.000 1\n"
-    ∷ prints (sailing_header ++ (0xF004_3800 ∷ unknown_contact)) "CONTACT 1 STATIONARY 4.000 - OPENING CROSSING-S UNDETERMINED 12\nALTER S 0.000 0.000 4.000 1\n"
+    ∷ prints (sailing_header ++ (0xF001_6800 ∷ unsure_contact)) "CONTACT 1 STATIONARY 4.000 - OPENING CROSSING-S GIVEWAY 12\nALTER S 0.000 0.000 4.000 1\n"
+    ∷ prints (sailing_header ++ (0xF004_3800 ∷ unsure_contact)) "CONTACT 1 STATIONARY 4.000 - OPENING CROSSING-S UNDETERMINED 12\nALTER S 0.000 0.000 4.000 1\n"
     ∷ prints (sailing_header ++ (0xF005_A000 ∷ sailing_contact)) "REFUSED 1\n"
     ∷ prints (sailing_header ++ (0xF005_A000 ∷ 0x9000_0001 ∷ 0xA001_6800 ∷ 0xBFFF_FFFF ∷ 0xC000_0000 ∷ 0xD000_2800 ∷ 0xE000_0002 ∷ [])) "REFUSED 1\n"
     ∷ prints (sample_header ++ (0xF001_6800 ∷ 0xF001_6800 ∷ sample_contact)) "REFUSED 15\n"

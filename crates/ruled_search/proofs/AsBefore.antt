@@ -44,17 +44,20 @@ module _ (own : Party) (visibility : Visibility) (wind : Option Direction) where
       let s = situation_of own visibility wind e in
       by_permits (ruling_answer s standard) ∙ ap sides_by (to_windward s standard).permitted ∙ sym (by_permits (Rulings.ruling_answer s standard))
 
-  same_folds : (s : BySide Bool) (entries : List Entry) → fold (join_sides own visibility wind) s entries ≡ fold (Before.join_sides own visibility wind) s entries
+  same_folds : (s : BySide Bool) (entries : List Entry) → fold (join_sides own visibility wind) s entries
+      ≡ fold (Before.join_sides own visibility wind) s entries
   unfolding fold
   same_folds s [] = refl
   same_folds s (e ∷ entries) =
-      ap (λ t. fold (join_sides own visibility wind) (in_both s t) entries) (same_sides e) ∙ same_folds (in_both s (Before.sides_of own visibility wind e)) entries
+      ap (λ t. fold (join_sides own visibility wind) (in_both s t) entries) (same_sides e)
+      ∙ same_folds (in_both s (Before.sides_of own visibility wind e)) entries
 
   same_shared : (entries : List Entry) → shared_sides own visibility wind entries ≡ Before.shared_sides own visibility wind entries
   unfolding shared_sides Before.shared_sides
   same_shared entries = same_folds either entries
 
-  pub as_before : (count : ℕ) (entries : List Entry) (desired : Distance) (c : ManoeuvreConstraints) → ruled_answer own count entries visibility wind desired c ≡ Before.ruled_answer own count entries visibility wind desired c
+  pub as_before : (count : ℕ) (entries : List Entry) (desired : Distance) (c : ManoeuvreConstraints)
+      → ruled_answer own count entries visibility wind desired c ≡ Before.ruled_answer own count entries visibility wind desired c
   unfolding ruled_answer Before.ruled_answer ruled Before.ruled
   as_before count entries desired c =
       ap (λ sides. ruled_if_accepted (verdict (ruled_checks own count entries wind desired c) (Ok tt))

@@ -1,5 +1,5 @@
--- The ruled search over the rulings before request R-2 (`colregs/specs/Before.antt`): `Ruled.antt`'s
--- definitions as they stand there, with those rulings.
+-- The ruled search over the rulings before request R-2 (`colregs/specs/Before.antt`): the
+-- definitions of `Ruled.antt` as they stand there, with those rulings.
 use Rattle.std.specs.Prelude.{◌≡◌, Bool, List, map, ℕ, Ok}
 use Rattle.laws.specs.Fold.{fold}
 use Rattle.motion.specs.declared.side.BySide.{BySide}

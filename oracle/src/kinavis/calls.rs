@@ -10,6 +10,7 @@ use crate::relative_motion::{
     bow_crossing_range, closest_point_of_approach, course_for_cpa, relative_bearing_of, target_from_plot, Approach, Contact, Vessel,
 };
 use crate::units::{Angle, Distance, Speed};
+use crate::to_windward;
 use crate::{ColregsConfig, Encounter, Responsibility, Ruling, Situation, Tack, VesselCategory, Visibility};
 
 /// Accepted arguments, in document 01's order; those that a function has no use for are at the end.
@@ -140,8 +141,8 @@ pub fn party(motion: Vessel, code: u32, heading: Option<u64>) -> Party {
     heading.map_or(party, |heading| party.with_heading(direction(heading)))
 }
 
-/// The ruling itself.
-pub fn ruling(codes: u32, words: SituationWords) -> Result<Ruling> {
+/// The situation and its config.
+fn situation(codes: u32, words: SituationWords) -> (Situation, ColregsConfig) {
     let [own_course, own_speed, own_heading, bearing, range, course, speed, heading, wind, abaft, width] = words;
     let given = |bit: u32, word: u64| (codes & bit != 0).then_some(word);
     let own = party(vessel(own_course, own_speed), codes & 7, given(OWN_HEADING, own_heading));
@@ -150,12 +151,26 @@ pub fn ruling(codes: u32, words: SituationWords) -> Result<Ruling> {
     let situation = Situation::new(own, target, contact(bearing, range), visibility);
     let situation = given(WIND, wind).map_or(situation, |wind| situation.with_wind_from(direction(wind)));
     let [overtaking_abaft_beam, head_on_half_width] = [abaft, width].map(|word| Angle::from_degrees_unchecked(f64::from_bits(word)));
-    rule_of_the_road(&situation, &ColregsConfig { overtaking_abaft_beam, head_on_half_width })
+    (situation, ColregsConfig { overtaking_abaft_beam, head_on_half_width })
 }
 
-/// Encounter, responsibility, the rule's printed number, and whether starboard, port, slowing down and holding are permitted.
+/// The listed ruling.
+pub fn ruling(codes: u32, words: SituationWords) -> Result<Ruling> {
+    let (situation, config) = situation(codes, words);
+    rule_of_the_road(&situation, &config)
+}
+
+/// Whether request R-2 changes it.
+pub fn is_changed(codes: u32, words: SituationWords) -> bool {
+    let (situation, config) = situation(codes, words);
+    rule_of_the_road(&situation, &config).is_ok_and(|listed| to_windward::is_changed(&situation, &listed))
+}
+
+/// The ruling with request R-2: encounter, responsibility, the rule's printed number, and whether starboard, port, slowing down and
+/// holding are permitted.
 pub fn ruling_words(codes: u32, words: SituationWords) -> RulingWords {
-    let ruling = match ruling(codes, words) {
+    let (situation, config) = situation(codes, words);
+    let ruling = match to_windward::rule_of_the_road(&situation, &config) {
         Ok(ruling) => ruling,
         Err(error) => return [number(error), 0, 0, 0, 0, 0, 0, 0],
     };

@@ -1,5 +1,5 @@
 //! Encounter sheets by document 01, 'Encounter sheet and its program', and request R-1, the wind: which bytes are a sheet, and the lines that the program prints for
-//! any bytes. Approach, risk and ruling are the unchanged Rust's, and the ruled search is the reference that the port's is compared with; what stands here is the sheet's layout, its checks and the lines' words.
+//! any bytes. Approach, risk and ruling are the unchanged Rust's (the ruling with request R-2), and the ruled search is the reference that the port's is compared with; what stands here is the sheet's layout, its checks and the lines' words.
 
 use std::time::Duration;
 
@@ -7,8 +7,9 @@ use crate::angle::Side;
 use crate::calls;
 use crate::checks::Kind::{Direction, Distance as Miles, Speed as Knots};
 use crate::checks::{first_bad, CONSTRAINTS, COUNT, MAX_CONTACTS};
-use crate::colregs::{rule_of_the_road, Party};
+use crate::colregs::Party;
 use crate::relative_motion::{closest_point_of_approach, Approach, Contact, Vessel};
+use crate::to_windward::rule_of_the_road;
 use crate::traffic_assessment::{assess, CollisionRisk, CpaPolicy};
 use crate::traffic_calls::{constraints, list, ruled, Limits, List, Ruled, Rulings, SIDES};
 use crate::{ColregsConfig, Encounter, Responsibility, Situation, Tack, VesselCategory, Visibility};

@@ -12,14 +12,21 @@ use Rattle.colregs.proofs.RulesCode.{ruled, refused}
 use Rattle.colregs.proofs.ToWindward.{to_windward}
 use Rattle.colregs.proofs.rules.rule_of_the_road.Goals as goal
 
-both : (s : Situation) (config : ColregsConfig) (a : Result Ruling Refusal) → a ≡ ruling_answer s config → record { is : a ≡ ruling_answer s config; property : ToWindward s config a }
+both : (s : Situation) (config : ColregsConfig) (a : Result Ruling Refusal) → a ≡ ruling_answer s config
+    → record { is : a ≡ ruling_answer s config; property : ToWindward s config a }
 both s config a is = record { is = is; property = subst (ToWindward s config) (sym is) (to_windward s config) }
 
 pub returns-in_err-check_situation : goal.returns-in_err-check_situation
-returns-in_err-check_situation c = both _ _ _ (handed_on _ _ c.from_residual.ensures.1 ∙ refused _ _ _ (refused_first (situation_checks c.args.s) (config_checks c.args.config) _ _ c.in_err-check_situation.ensures))
+returns-in_err-check_situation c =
+    both _ _ _ (handed_on _ _ c.from_residual.ensures.1
+    ∙ refused _ _ _ (refused_first (situation_checks c.args.s) (config_checks c.args.config) _ _ c.in_err-check_situation.ensures))
 
 pub returns-in_err-check_config : goal.returns-in_err-check_config
-returns-in_err-check_config c = both _ _ _ (handed_on _ _ c.from_residual-in_err-check_config.ensures.1 ∙ refused _ _ _ (accepted (situation_checks c.args.s) (config_checks c.args.config) _ _ c.in_ok-check_situation.ensures c.in_err-check_config.ensures))
+returns-in_err-check_config c =
+    both _ _ _ (handed_on _ _ c.from_residual-in_err-check_config.ensures.1
+    ∙ refused _ _ _ (accepted (situation_checks c.args.s) (config_checks c.args.config) _ _ c.in_ok-check_situation.ensures c.in_err-check_config.ensures))
 
 pub returns : goal.returns
-returns c = both _ _ _ (ruled _ _ _ _ (accepted (situation_checks c.args.s) (config_checks c.args.config) _ _ c.in_ok-check_situation.ensures c.in_ok-check_config.ensures) c.geometry_of.ensures c.ruling_of.ensures)
+returns c =
+    both _ _ _ (ruled _ _ _ _ (accepted (situation_checks c.args.s) (config_checks c.args.config) _ _ c.in_ok-check_situation.ensures c.in_ok-check_config.ensures)
+    c.geometry_of.ensures c.ruling_of.ensures)
