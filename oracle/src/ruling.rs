@@ -241,6 +241,11 @@ impl Case {
         }
     }
 
+    /// Whether request R-2 changes the ruling, an answer being given.
+    fn is_changed(&self, answer: RulingWords) -> bool {
+        answer[0] == 0 && calls::is_changed(self.codes, self.words())
+    }
+
     /// The words of a difference in any part.
     fn difference(&self, wanted: RulingWords) -> Option<String> {
         (0..PARTS).zip(wanted).find_map(|(part, wanted)| {
@@ -500,7 +505,7 @@ fn compare_to_windward() -> bool {
     let good = run("Rule 12(a)(iii) about 90 degrees", cases, |i, random| {
         let case = about_square(i, random);
         let wanted = case.reference();
-        changed += u64::from(wanted[0] == 0 && calls::is_changed(case.codes, case.words()));
+        changed += u64::from(case.is_changed(wanted));
         case.difference(wanted)
     });
     println!("Rule 12(a)(iii) about 90 degrees: changed {changed}, as before {}", cases - changed);
@@ -517,6 +522,7 @@ pub fn compare(count: u64) -> bool {
     good &= compare_stated();
     good &= compare_to_windward();
     let mut tally = Tally::default();
+    let mut changed = 0u64;
     let (first, second) = (count / 5, count / 5 + SYSTEMATIC);
     good &= run("rule_of_the_road", second + count, |i, random| {
         let case = match i {
@@ -526,9 +532,11 @@ pub fn compare(count: u64) -> bool {
         };
         let wanted = case.reference();
         tally.count(wanted);
+        changed += u64::from(case.is_changed(wanted));
         case.difference(wanted)
     });
     tally.print();
+    println!("rule_of_the_road: changed by request R-2 {changed}");
     good
 }
 

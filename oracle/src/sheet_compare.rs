@@ -87,7 +87,7 @@ pub fn stated() -> Vec<(Vec<u8>, &'static str)> {
     ]
 }
 
-/// Sheets that tell the wind, and lines that follow by hand from request R-1 and, for vessels under sail, from Rule 12(a).
+/// Sheets that tell the wind, and lines that follow by hand from requests and, for vessels under sail, from Rule 12(a).
 fn stated_with_wind() -> Vec<(Vec<u8>, &'static str)> {
     let base = [0.0, 10.0, 2.0, 0.0, 1.0, 0.0, 180.0, 1.0, 1800.0];
     let from = |degrees: f64, values: Values| values.blown((degrees * PARTS) as u32).bytes();
@@ -96,8 +96,8 @@ fn stated_with_wind() -> Vec<(Vec<u8>, &'static str)> {
         numbers[place] = x;
         numbers
     };
-    let [beside, beyond, unknown] =
-        [[1.0, 90.0, 4.0, 0.0, 10.0, 2.0], [1.0, 90.0, 10_001.0, 0.0, 10.0, 2.0], [1.0, 90.0, 4.0, 0.0, 10.0, 8.0]];
+    let [beside, beyond] = [[1.0, 90.0, 4.0, 0.0, 10.0, 2.0], [1.0, 90.0, 10_001.0, 0.0, 10.0, 2.0]];
+    let [unsure, unknown] = [[1.0, 90.0, 4.0, 0.0, 10.0, 1.0], [1.0, 90.0, 4.0, 0.0, 10.0, 8.0]];
     let [contact, wind] = [36..60, 36..40].map(|range: Range<usize>| move |sheet: &[u8]| sheet[range.clone()].to_vec());
     let plain = Values::of(base, &[beside]).bytes();
     let windy = from(90.0, Values::of(base, &[beside]));
@@ -114,6 +114,13 @@ fn stated_with_wind() -> Vec<(Vec<u8>, &'static str)> {
         (
             from(359.9990234375, Values::of(base, &[beside])),
             "CONTACT 1 STATIONARY 4.000 - OPENING CROSSING-S GIVEWAY 12\nALTER S 0.000 0.000 4.000 1\n",
+        ),
+        // Request R-2: own craft on the port tack, the contact's tack unknown; to windward of own craft, at 90 degrees, to leeward.
+        (from(90.0, Values::of(base, &[unsure])), "CONTACT 1 STATIONARY 4.000 - OPENING CROSSING-S GIVEWAY 12\nALTER S 0.000 0.000 4.000 1\n"),
+        (from(0.0, Values::of(base, &[unsure])), "CONTACT 1 STATIONARY 4.000 - OPENING CROSSING-S GIVEWAY 12\nALTER S 0.000 0.000 4.000 1\n"),
+        (
+            from(270.0, Values::of(base, &[unsure])),
+            "CONTACT 1 STATIONARY 4.000 - OPENING CROSSING-S UNDETERMINED 12\nALTER S 0.000 0.000 4.000 1\n",
         ),
         // 360 and more; the order: categories, limits, wind, contacts.
         (from(360.0, Values::of(base, &[beside])), "REFUSED 1\n"),
