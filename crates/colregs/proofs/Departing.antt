@@ -23,7 +23,8 @@ use Rattle.situation.specs.declared.party.Tack.{Tack}
 use Rattle.situation.specs.declared.party.Visibility.{Visibility}
 use Rattle.situation.specs.declared.party.Visibility.TheVariants.{InSight, Restricted}
 use Rattle.situation.specs.declared.party.VesselCategory.{VesselCategory}
-use Rattle.situation.specs.declared.party.VesselCategory.TheVariants.{PowerDriven, Sailing, Fishing, ConstrainedByDraught, RestrictedInAbilityToManoeuvre, NotUnderCommand}
+use Rattle.situation.specs.declared.party.VesselCategory.TheVariants.{PowerDriven, Sailing, Fishing, ConstrainedByDraught, RestrictedInAbilityToManoeuvre}
+use Rattle.situation.specs.declared.party.VesselCategory.TheVariants.{NotUnderCommand}
 use Rattle.situation.specs.declared.config.ColregsConfig.{ColregsConfig}
 use Rattle.colregs.specs.declared.geometry.Wind.{Wind}
 use Rattle.colregs.specs.declared.geometry.Geometry.{Geometry}
@@ -35,7 +36,9 @@ use Rattle.colregs.specs.declared.answer.Responsibility.TheVariants.{GiveWay, St
 use Rattle.colregs.specs.declared.answer.Decision.{Decision}
 use Rattle.colregs.specs.declared.answer.Rule.{Rule}
 use Rattle.colregs.specs.declared.answer.Rule.TheVariants.{Rule12, Rule13, Rule14, Rule15, Rule17, Rule18, Rule19}
-use Rattle.colregs.specs.Colregs.{dead_ahead, to_starboard, abaft, own_comes_up, target_comes_up, own_overtakes, target_overtakes, is_head_on, side_of, encounter_of, rule13, rule18, rule19, clause, ranks_first, clauses, decided, permitted, forward_of_beam, is_overtaking, is_crossing, is_stand_on, permits_starboard, permits_port, rule19_starboard, rule19_port, rule17_port, ruling_for, ruling_of}
+use Rattle.colregs.specs.Colregs.{dead_ahead, to_starboard, abaft, own_comes_up, target_comes_up, own_overtakes, target_overtakes, is_head_on, side_of}
+use Rattle.colregs.specs.Colregs.{encounter_of, rule13, rule18, rule19, clause, ranks_first, clauses, decided, permitted, forward_of_beam, is_overtaking}
+use Rattle.colregs.specs.Colregs.{is_crossing, is_stand_on, permits_starboard, permits_port, rule19_starboard, rule19_port, rule17_port, ruling_for, ruling_of}
 use Rattle.colregs.specs.Text.{Terms, terms, more_abaft, nearly_ahead, on_starboard, on_port, Asks, asks, code, paragraphs, first_asked, text}
 use Rattle.colregs.proofs.Trying.{all, always, all_pairs, any_pair}
 use Rattle.colregs.specs.Departs.{asked, Tests, tests, Case, cases, applies, instead, Departs}
@@ -83,7 +86,8 @@ module _ (config : ColregsConfig) (f : Geometry) where
   here_starboard Rule18 = refl
   here_starboard Rule19 = refl
 
-  here_port : (r : Rule) (duty : Responsibility) → permits_port r (encounter_of config f) duty f.relative ≡ to_port_by f.own f.target f.wind (terms config f) (tests f) r duty
+  here_port : (r : Rule) (duty : Responsibility)
+      → permits_port r (encounter_of config f) duty f.relative ≡ to_port_by f.own f.target f.wind (terms config f) (tests f) r duty
   unfolding terms tests rule19_port rule17_port forward_of_beam encounter_of own_overtakes target_overtakes own_comes_up target_comes_up abaft more_abaft is_head_on nearly_ahead side_of
   here_port Rule12 duty = refl
   here_port Rule13 duty = refl
@@ -103,7 +107,8 @@ module _ (config : ColregsConfig) (f : Geometry) where
       let d = decided (clauses (encounter_of config f) f) in
       ap (λ b. asks d.responsibility b (permits_port d.rule (encounter_of config f) d.responsibility f.relative)) (here_starboard d.rule)
       ∙ ap (λ b. asks d.responsibility (to_starboard_by f.own f.target f.wind (terms config f) (tests f) d.rule) b) (here_port d.rule d.responsibility)
-      ∙ ap (λ d. asks d.responsibility (to_starboard_by f.own f.target f.wind (terms config f) (tests f) d.rule) (to_port_by f.own f.target f.wind (terms config f) (tests f) d.rule d.responsibility)) here_decided
+      ∙ ap (λ d. asks d.responsibility (to_starboard_by f.own f.target f.wind (terms config f) (tests f) d.rule)
+      (to_port_by f.own f.target f.wind (terms config f) (tests f) d.rule d.responsibility)) here_decided
 
 -- ---- what is asked, compared
 abbrev pub same_bool : Bool → Bool → Bool
@@ -256,7 +261,8 @@ zero_sized (fin s m e) h = level_sized s (m * up e * down (pos 0)) (0 * up (pos 
 
 not_zero : (x b : Float) → T (lt Fold.zero b) → lt (abs x) b ≡ false → le Fold.zero x ≡ lt Fold.zero x
 unfolding le
-not_zero x b p h = go (lt Fold.zero x) (eq Fold.zero x) (refuted (eq Fold.zero x) (λ t. fails h (eq-lt (abs x) Fold.zero b (zero_sized x (eq_sym Fold.zero x t)) p)))
+not_zero x b p h =
+    go (lt Fold.zero x) (eq Fold.zero x) (refuted (eq Fold.zero x) (λ t. fails h (eq-lt (abs x) Fold.zero b (zero_sized x (eq_sym Fold.zero x t)) p)))
   where
     go : (l e : Bool) → e ≡ false → l || e ≡ l
     go true e q = refl
@@ -339,7 +345,8 @@ module _ (config : ColregsConfig) (f : Geometry) (number : T (not (is_nan f.rela
       go : (v : Visibility) → T (good v f.own f.target f.wind (terms config f) (tests f))
       go InSight = by13 (c && more_abaft config f.aspect) (c && more_abaft config x)
       go Restricted =
-          unseen f.own f.target f.wind q r i forward c (more_abaft config f.aspect) (more_abaft config x) faster a (on_starboard x) (on_port x) (to_starboard x) counted_abaft
+          unseen f.own f.target f.wind q r i forward c (more_abaft config f.aspect) (more_abaft config x) faster a
+          (on_starboard x) (on_port x) (to_starboard x) counted_abaft
 
   -- the ruling asks what the text asks, or a case of departure holds: there is no other
   pub by_text_or_departs : (asked (ruling_of config f) ≡ text config f) ⊎ Departs config f
@@ -354,7 +361,8 @@ module _ (config : ColregsConfig) (f : Geometry) (number : T (not (is_nan f.rela
   pub instead_is : (k : Case) → Memᴰ k cases → T (applies k config f) → asked (ruling_of config f) ≡ instead k config f
   unfolding applies instead
   instead_is k m h =
-      ruled_is config f ∙ is_same _ _ (given (k.condition f.visibility f.own f.target f.wind (terms config f) (tests f)) _ h (every_holds follow cases each k m))
+      ruled_is config f ∙ is_same _ _ (given (k.condition f.visibility f.own f.target f.wind (terms config f) (tests f)) _ h
+      (every_holds follow cases each k m))
     where
       follow : Case → Bool
       follow k = follows f.visibility f.own f.target f.wind (terms config f) (tests f) k

@@ -21,7 +21,8 @@ use Rattle.elementary.specs.Range.{in_range}
 use Rattle.motion.specs.Check.{verdict, is_direction, is_speed, is_distance}
 use Rattle.motion.specs.Vessel.{unit, resolved, velocity}
 use Rattle.situation.specs.declared.party.Tack.TheVariants as Tack
-use Rattle.situation.specs.declared.party.VesselCategory.TheVariants.{PowerDriven, Sailing, Fishing, ConstrainedByDraught, RestrictedInAbilityToManoeuvre, NotUnderCommand}
+use Rattle.situation.specs.declared.party.VesselCategory.TheVariants.{PowerDriven, Sailing, Fishing, ConstrainedByDraught, RestrictedInAbilityToManoeuvre}
+use Rattle.situation.specs.declared.party.VesselCategory.TheVariants.{NotUnderCommand}
 use Rattle.situation.specs.Situation.{party, with_heading, heading, situation, with_wind_from}
 use Rattle.colregs.specs.Geometry.{relative_of, aspect_of, larger, speed_of, range_rate, is_closing, geometry_of}
 use Rattle.situation.specs.Arguments.{party_checks, is_width, situation_checks}
@@ -29,11 +30,14 @@ use Rattle.motion.specs.declared.side.Side.TheVariants.{Port, Starboard}
 use Rattle.colregs.specs.declared.answer.Encounter.TheVariants.{Overtaking, BeingOvertaken, HeadOn, Crossing}
 use Rattle.colregs.specs.declared.answer.Responsibility.TheVariants.{GiveWay, StandOn, Both, Undetermined}
 use Rattle.colregs.specs.declared.answer.Rule.TheVariants.{Rule12, Rule13, Rule14, Rule15, Rule17, Rule18, Rule19}
-use Rattle.colregs.specs.Colregs.{abaft, own_comes_up, target_comes_up, own_overtakes, target_overtakes, is_head_on, side_of, rule18, encounter_of, decided, forward_of_beam, rule19_starboard, rule19_port, rule17_port, permitted, ruling_for, ruling_of, ruling_answer}
+use Rattle.colregs.specs.Colregs.{abaft, own_comes_up, target_comes_up, own_overtakes, target_overtakes, is_head_on, side_of, rule18, encounter_of, decided}
+use Rattle.colregs.specs.Colregs.{forward_of_beam, rule19_starboard, rule19_port, rule17_port, permitted, ruling_for, ruling_of, ruling_answer}
 use Rattle.situation.specs.declared.party.Situation.{Situation}
 use Rattle.situation.specs.Situation.{standard}
 use Rattle.colregs.specs.Text.{terms, more_abaft, nearly_ahead, on_starboard, on_port, first_asked, text}
-use Rattle.colregs.specs.Departs.{asked, tests, Case, cases, applies, each_from_abaft, draught_over_power, draught_over_sail_and_fishing, command_over_restricted, two_of_another_category, not_closing, either_tack, stand_on_not_to_port, ahead_or_astern, neither_to_starboard, astern_unseen, not_closing_unseen}
+use Rattle.colregs.specs.Departs.{asked, tests, Case, cases, applies, each_from_abaft, draught_over_power, draught_over_sail_and_fishing}
+use Rattle.colregs.specs.Departs.{command_over_restricted, two_of_another_category, not_closing, either_tack, stand_on_not_to_port, ahead_or_astern}
+use Rattle.colregs.specs.Departs.{neither_to_starboard, astern_unseen, not_closing_unseen}
 use Rattle.colregs.proofs.Departing.{same}
 use Rattle.colregs.proofs.Rows.{a, power, heads, vessel, seen, unseen, wind, rules}
 
@@ -76,7 +80,8 @@ departures =
     ∷ rules (wind 0 (seen (a (Sailing Tack.Port) 0 5) 90 2 (a (Sailing Tack.Unknown) 0 5))) (Crossing Starboard) GiveWay Rule12 true true true false
     ∷ rules (wind 0 (seen (a (Sailing Tack.Port) 0 5) 270 2 (a (Sailing Tack.Unknown) 0 5))) (Crossing Port) GiveWay Rule12 true true true false
     -- 13(b), (c): exactly 22.5 degrees abaft the beam
-    ∷ rules (seen (power 0 20) 0 5 (party (vessel (record { 0 = of_bits binary64 0x4050_e000_0000_0000 }) 10) PowerDriven)) (Crossing Port) StandOn Rule17 true false true true
+    ∷ rules (seen (power 0 20) 0 5 (party (vessel (record { 0 = of_bits binary64 0x4050_e000_0000_0000 }) 10) PowerDriven))
+    (Crossing Port) StandOn Rule17 true false true true
     -- 13(d): overtaking, and later crossing
     ∷ rules (seen (power 0 20) 310 1 (power 0 10)) Overtaking GiveWay Rule13 true true true false
     ∷ rules (seen (power 0 20) 280 1 (power 0 10)) (Crossing Port) StandOn Rule17 true false true true

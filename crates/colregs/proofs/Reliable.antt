@@ -9,7 +9,8 @@ use Rattle.laws.proofs.Bools.{or_right}
 use Rattle.situation.specs.declared.party.Visibility.{Visibility}
 use Rattle.situation.specs.declared.party.Visibility.TheVariants.{InSight, Restricted}
 use Rattle.situation.specs.declared.party.VesselCategory.{VesselCategory}
-use Rattle.situation.specs.declared.party.VesselCategory.TheVariants.{PowerDriven, Sailing, Fishing, ConstrainedByDraught, RestrictedInAbilityToManoeuvre, NotUnderCommand}
+use Rattle.situation.specs.declared.party.VesselCategory.TheVariants.{PowerDriven, Sailing, Fishing, ConstrainedByDraught, RestrictedInAbilityToManoeuvre}
+use Rattle.situation.specs.declared.party.VesselCategory.TheVariants.{NotUnderCommand}
 use Rattle.situation.specs.declared.party.Tack.{Tack}
 use Rattle.colregs.specs.declared.geometry.Windward.{Windward}
 use Rattle.colregs.specs.declared.geometry.Wind.{Wind}
@@ -23,7 +24,10 @@ use Rattle.colregs.specs.declared.answer.Responsibility.{Responsibility}
 use Rattle.colregs.specs.declared.answer.Responsibility.TheVariants.{GiveWay, StandOn, Both, Undetermined}
 use Rattle.colregs.specs.declared.answer.Rule.{Rule}
 use Rattle.colregs.specs.declared.answer.Rule.TheVariants.{Rule12, Rule13, Rule14, Rule15, Rule17, Rule18, Rule19}
-use Rattle.colregs.specs.Colregs.{Says, silent, says, clause, own_overtakes, target_comes_up, target_overtakes, is_head_on, side_of, encounter_of, keeps_clear, rule13, rule18, rule12, rule19, rule12_sailing, windward_gives_way, port_tack_keeps_clear, sailing_vessels, decided, unless_silent, one_rank, ranks_first, clauses_in_sight, clauses, permitted, forward_of_beam, to_starboard, is_overtaking, permits_starboard, permits_port, rule19_starboard, rule19_port, rule17_port, ruling_for, ruling_of}
+use Rattle.colregs.specs.Colregs.{Says, silent, says, clause, own_overtakes, target_comes_up, target_overtakes, is_head_on, side_of, encounter_of, keeps_clear}
+use Rattle.colregs.specs.Colregs.{rule13, rule18, rule12, rule19, under_sail, windward_gives_way, port_tack_keeps_clear, sailing_vessels, decided}
+use Rattle.colregs.specs.Colregs.{unless_silent, one_rank, ranks_first, clauses_in_sight, clauses, permitted, forward_of_beam, to_starboard, is_overtaking}
+use Rattle.colregs.specs.Colregs.{permits_starboard, permits_port, rule19_starboard, rule19_port, rule17_port, ruling_for, ruling_of}
 use Rattle.colregs.specs.Log.{same_side, is_kind, OneKind, speaks, some_speaks, Row, row, row_of, In, here, there, in_sight, restricted}
 
 -- ---- exactly one kind
@@ -139,21 +143,17 @@ by_tacks_lem Tack.Port Tack.Unknown w = by_sight_lem w.seen_to_windward
 by_tacks_lem Tack.Starboard Tack.Unknown w = unsaid
 by_tacks_lem Tack.Unknown target w = unsaid
 
-beside : (own : Tack) (target : VesselCategory) (w : Wind) → By12 (rule12_sailing own target w)
-beside own (Sailing target) w = by_tacks_lem own target w
-beside own PowerDriven w = nothing
-beside own Fishing w = nothing
-beside own ConstrainedByDraught w = nothing
-beside own RestrictedInAbilityToManoeuvre w = nothing
-beside own NotUnderCommand w = nothing
+sails : (P : Tack → Says) → ((t : Tack) → By12 (P t)) → (c : VesselCategory) → By12 (under_sail P c)
+sails P h (Sailing tack) = h tack
+sails P h PowerDriven = nothing
+sails P h Fishing = nothing
+sails P h ConstrainedByDraught = nothing
+sails P h RestrictedInAbilityToManoeuvre = nothing
+sails P h NotUnderCommand = nothing
 
 by_12 : (own target : VesselCategory) (w : Wind) → By12 (rule12 own target w)
-by_12 (Sailing own) target w = beside own target w
-by_12 PowerDriven target w = nothing
-by_12 Fishing target w = nothing
-by_12 ConstrainedByDraught target w = nothing
-by_12 RestrictedInAbilityToManoeuvre target w = nothing
-by_12 NotUnderCommand target w = nothing
+by_12 own target w =
+    sails (λ a. under_sail (λ b. says (sailing_vessels a b w)) target) (λ a. sails (λ b. says (sailing_vessels a b w)) (λ b. by_tacks_lem a b w) target) own
 
 -- ---- the tables of sides
 abbrev nth : ℕ → List Row → Row
@@ -203,7 +203,8 @@ module _ (relative : Float) where
   to_starboard_lem _ _ nothing unsaid = within 16 in_sight tt
   to_starboard_lem _ _ nothing nothing = within 18 in_sight tt
 
-  seen : (e : Encounter) (own target : VesselCategory) (w : Wind) → In (row_of (ruling_for e (decided (clause Rule13 (rule13 e) ∷ ranks_first e own target w)) relative)) in_sight
+  seen : (e : Encounter) (own target : VesselCategory) (w : Wind)
+      → In (row_of (ruling_for e (decided (clause Rule13 (rule13 e) ∷ ranks_first e own target w)) relative)) in_sight
   unfolding row_of ruling_for permitted decided rule17_port
   seen Overtaking own target w = within 0 in_sight tt
   seen BeingOvertaken own target w = within 1 in_sight tt
@@ -229,7 +230,9 @@ module _ (config : ColregsConfig) (f : Geometry) where
   in-sight-listed h = subst (λ r. In r in_sight) (sym (ruled ∙ ap row_by h ∙ in-sight-is)) (seen f.relative (encounter_of config f) f.own f.target f.wind)
 
   -- restricted visibility: the ruling is the row of the target's place
-  restricted_by : (e : Encounter) (forward starboard : Bool) → row Rule19 Both e (forward || not starboard) (cond forward (is_overtaking e) starboard) ≡ cond forward (row Rule19 Both e true (is_overtaking e)) (cond starboard (row Rule19 Both e false true) (row Rule19 Both e true false))
+  restricted_by : (e : Encounter) (forward starboard : Bool)
+      → row Rule19 Both e (forward || not starboard) (cond forward (is_overtaking e) starboard)
+      ≡ cond forward (row Rule19 Both e true (is_overtaking e)) (cond starboard (row Rule19 Both e false true) (row Rule19 Both e true false))
   restricted_by e true starboard = refl
   restricted_by e false true = refl
   restricted_by e false false = refl
@@ -259,4 +262,7 @@ some_side Rule19 e duty relative = go (forward_of_beam relative) (to_starboard r
 
 pub permits_a_side : (config : ColregsConfig) (f : Geometry) → T ((ruling_of config f).manoeuvre.starboard || (ruling_of config f).manoeuvre.port)
 unfolding ruling_of ruling_for permitted
-permits_a_side config f = some_side (decided (clauses (encounter_of config f) f)).rule (encounter_of config f) (decided (clauses (encounter_of config f) f)).responsibility f.relative
+permits_a_side config f =
+    let e = encounter_of config f in
+    let d = decided (clauses e f) in
+    some_side d.rule e d.responsibility f.relative

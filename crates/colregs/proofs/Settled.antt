@@ -9,7 +9,8 @@ use Rattle.math.specs.Fold.{half_turn, half_fold}
 use Rattle.motion.specs.declared.vessel.Contact.{Contact}
 use Rattle.situation.specs.declared.party.Tack.{Tack}
 use Rattle.situation.specs.declared.party.VesselCategory.{VesselCategory}
-use Rattle.situation.specs.declared.party.VesselCategory.TheVariants.{PowerDriven, Sailing, Fishing, ConstrainedByDraught, RestrictedInAbilityToManoeuvre, NotUnderCommand}
+use Rattle.situation.specs.declared.party.VesselCategory.TheVariants.{PowerDriven, Sailing, Fishing, ConstrainedByDraught, RestrictedInAbilityToManoeuvre}
+use Rattle.situation.specs.declared.party.VesselCategory.TheVariants.{NotUnderCommand}
 use Rattle.std.specs.declared.option.Option.{Option}
 use Rattle.motion.specs.declared.units.Direction.{Direction}
 use Rattle.situation.specs.declared.party.Situation.{Situation}
@@ -26,7 +27,8 @@ use Rattle.colregs.specs.declared.answer.Rule.{Rule}
 use Rattle.colregs.specs.declared.answer.Rule.TheVariants.{Rule13, Rule18, Rule19}
 use Rattle.colregs.specs.declared.answer.Responsibility.TheVariants.{GiveWay, StandOn}
 use Rattle.colregs.specs.declared.answer.Decision.{Decision}
-use Rattle.colregs.specs.Colregs.{Says, silent, says, encounter_of, keeps_clear, rule13, rule18, rule19, windward_gives_way, sailing_vessels, unless_silent, decided, ranks_first, ruling_for, ruling_of}
+use Rattle.colregs.specs.Colregs.{Says, silent, says, encounter_of, keeps_clear, rule13, rule18, rule19, windward_gives_way, sailing_vessels, unless_silent}
+use Rattle.colregs.specs.Colregs.{decided, ranks_first, ruling_for, ruling_of}
 use Rattle.colregs.specs.Settled.{is_settled, on_tack, is_known, Settled}
 
 -- ---- Rule 12
@@ -55,7 +57,8 @@ abbrev Settles : Says → Type 0
 Settles silent = Unit
 Settles (says duty) = T (is_settled duty)
 
-or_the_rest : (s : Says) (number : Rule) (rest : Decision) → Settles s → T (is_settled rest.responsibility) → T (is_settled (unless_silent s number rest).responsibility)
+or_the_rest : (s : Says) (number : Rule) (rest : Decision) → Settles s → T (is_settled rest.responsibility)
+    → T (is_settled (unless_silent s number rest).responsibility)
 or_the_rest silent number rest h k = k
 or_the_rest (says duty) number rest h k = h
 
@@ -111,4 +114,5 @@ settled config s own target wind =
     let f = geometry_of s in
     let e = encounter_of config f in
     or_the_rest (rule19 s.visibility) Rule19 _ (rule19_settles s.visibility)
-    (or_the_rest (rule13 e) Rule13 _ (rule13_settles e) (ranked e f.wind (windward_told s.contact s.wind_from wind) s.own.category s.target.category own target))
+    (or_the_rest (rule13 e) Rule13 _ (rule13_settles e)
+    (ranked e f.wind (windward_told s.contact s.wind_from wind) s.own.category s.target.category own target))

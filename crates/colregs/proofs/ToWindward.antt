@@ -10,7 +10,9 @@ use lib.Dec.{T, eqb, eqb→eq}
 use lib.Ieee.{Float}
 use mathlib.Core.Logic.{inl, inr}
 use lib.Ieee.Fits.{and_l, and_r}
-use Rattle.laws.proofs.Bools.{holds, either}
+use lib.Ieee.Bits.{is_true, is_false}
+use Rattle.std.proofs.lemmas.Bool.{cond-true, cond-false}
+use Rattle.laws.proofs.Bools.{either}
 use Rattle.std.specs.declared.result.Result.{Result}
 use Rattle.elementary.specs.declared.error.Refusal.{Refusal}
 use Rattle.motion.specs.Check.{verdict}
@@ -34,7 +36,8 @@ use Rattle.colregs.specs.declared.answer.Ruling.{Ruling}
 use Rattle.colregs.specs.Geometry.{seen_to_windward, geometry_of}
 use Rattle.colregs.specs.Ruling.{rule_number}
 use Rattle.colregs.specs.Text.{code}
-use Rattle.colregs.specs.Colregs.{clause, rule13, rule18, rule19, ranks_first, decided, own_overtakes, target_overtakes, own_comes_up, target_comes_up, is_head_on, side_of, encounter_of, rule17_port, permitted, ruling_for, ruling_of, ruling_if_accepted, ruling_answer}
+use Rattle.colregs.specs.Colregs.{clause, rule13, rule18, rule19, ranks_first, decided, own_overtakes, target_overtakes, own_comes_up, target_comes_up}
+use Rattle.colregs.specs.Colregs.{is_head_on, side_of, encounter_of, rule17_port, permitted, ruling_for, ruling_of, ruling_if_accepted, ruling_answer}
 use Rattle.colregs.specs.Before.{sails_on, rule12_undetermined, gave_undetermined, is_changed, target_on, gives_way, permits, ToWindward}
 use Rattle.colregs.specs.Before as Before
 use Rattle.colregs.proofs.Trying.{all_pairs, any_pair, all_visibilities, any_visibility, all_encounters, any_encounter}
@@ -105,14 +108,6 @@ is_fine v e =
     any_pair (fine v e) (any_encounter (λ e. all_pairs (fine v e)) (any_visibility (λ v. all_encounters (λ e. all_pairs (fine v e))) tried v) e)
 
 -- ---- rulings
-under : (b x y : Bool) → T (cond b x y) → T b → T x
-under true x y h t = h
-under false x y h t = elim t [ ]
-
-under_not : (b x y : Bool) → T (cond b x y) → T (not b) → T y
-under_not false x y h t = h
-under_not true x y h t = elim t [ ]
-
 module _ (s : Situation) (config : ColregsConfig) where
   abbrev f : Geometry
   f = geometry_of s
@@ -145,16 +140,21 @@ module _ (s : Situation) (config : ColregsConfig) where
   unfolding Before.ruling_of geometry_of target_on heading encounter_of own_overtakes target_overtakes own_comes_up target_comes_up is_head_on side_of
   starboard_is = refl
 
-  all_three : T there → (now_here ≡ clear) × (before_here ≡ undetermined) × (on_starboard ≡ clear)
+  abbrev all_three_same : Bool
+  all_three_same = three f.visibility e f.own f.target f.wind
+
+  here : T (cond there all_three_same (same now_here before_here))
+  here = is_fine f.visibility e f.own f.target f.wind
+
+  all_three : there ≡ true → (now_here ≡ clear) × (before_here ≡ undetermined) × (on_starboard ≡ clear)
   all_three t =
-      let h = under there (three f.visibility e f.own f.target f.wind) (same now_here before_here) (is_fine f.visibility e f.own f.target f.wind) t in
+      let h = subst T (cond-true there all_three_same (same now_here before_here) t) here in
       let k = and_r (same now_here clear) _ h in
       let was = same before_here undetermined in
       (is_same _ _ (and_l (same now_here clear) _ h), is_same _ _ (and_l was _ k), is_same _ _ (and_r was _ k))
 
-  elsewhere : T (not there) → now_here ≡ before_here
-  elsewhere t =
-      is_same _ _ (under_not there (three f.visibility e f.own f.target f.wind) (same now_here before_here) (is_fine f.visibility e f.own f.target f.wind) t)
+  elsewhere : there ≡ false → now_here ≡ before_here
+  elsewhere n = is_same _ _ (subst T (cond-false there all_three_same (same now_here before_here) n) here)
 
   -- ---- answers, whatever the verdict on the arguments
   abbrev conditions : Bool
@@ -166,9 +166,9 @@ module _ (s : Situation) (config : ColregsConfig) where
   abbrev there_by : Result (Unit {0}) Refusal → Bool
   there_by v = gave_undetermined (ruling_if_accepted v former) && conditions
 
-  is_there : (v : Result (Unit {0}) Refusal) → T (there_by v) → T there
+  is_there : (v : Result (Unit {0}) Refusal) → T (there_by v) → there ≡ true
   unfolding geometry_of Before.ruling_of ruling_for
-  is_there (Ok tt) t = t
+  is_there (Ok tt) t = is_true there t
   is_there (Err why) t = elim t [ ]
 
   keeps_clear_by : (v : Result (Unit {0}) Refusal) → T (there_by v) → T (gives_way (ruling_if_accepted v (ruling_of config f)))
@@ -189,7 +189,7 @@ module _ (s : Situation) (config : ColregsConfig) where
 
   otherwise_by : (v : Result (Unit {0}) Refusal) → T (not (there_by v)) → ruling_if_accepted v (ruling_of config f) ≡ ruling_if_accepted v former
   unfolding geometry_of Before.ruling_of ruling_for
-  otherwise_by (Ok tt) t = ap Ok (ruling_is ∙ ap (λ d. ruling_for e d f.relative) (elsewhere t) ∙ sym former_is)
+  otherwise_by (Ok tt) t = ap Ok (ruling_is ∙ ap (λ d. ruling_for e d f.relative) (elsewhere (is_false there t)) ∙ sym former_is)
   otherwise_by (Err why) t = refl
 
   -- Rule 12 leaves a vessel that gives way, and one whose duty is not determined, the same
@@ -198,12 +198,9 @@ module _ (s : Situation) (config : ColregsConfig) where
   alike = refl
 
   same_permits : permitted e now_here f.relative ≡ permitted e before_here f.relative
-  same_permits = elim (either there) [ inl t ↦ changed (holds t) | inr n ↦ ap (λ d. permitted e d f.relative) (elsewhere (holds_not n)) ]
+  same_permits = elim (either there) [ inl t ↦ changed t | inr n ↦ ap (λ d. permitted e d f.relative) (elsewhere n) ]
     where
-      holds_not : there ≡ false → T (not there)
-      holds_not n = holds (ap not n)
-
-      changed : T there → permitted e now_here f.relative ≡ permitted e before_here f.relative
+      changed : there ≡ true → permitted e now_here f.relative ≡ permitted e before_here f.relative
       changed t =
           let three = all_three t in
           ap (λ d. permitted e d f.relative) three.0 ∙ alike ∙ sym (ap (λ d. permitted e d f.relative) three.1)

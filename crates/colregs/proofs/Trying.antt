@@ -6,7 +6,8 @@ use lib.Dec.{T}
 use lib.Ieee.Fits.{and_l, and_r}
 use Rattle.situation.specs.declared.party.Tack.{Tack}
 use Rattle.situation.specs.declared.party.VesselCategory.{VesselCategory}
-use Rattle.situation.specs.declared.party.VesselCategory.TheVariants.{PowerDriven, Sailing, Fishing, ConstrainedByDraught, RestrictedInAbilityToManoeuvre, NotUnderCommand}
+use Rattle.situation.specs.declared.party.VesselCategory.TheVariants.{PowerDriven, Sailing, Fishing, ConstrainedByDraught, RestrictedInAbilityToManoeuvre}
+use Rattle.situation.specs.declared.party.VesselCategory.TheVariants.{NotUnderCommand}
 use Rattle.colregs.specs.declared.geometry.Windward.{Windward}
 use Rattle.colregs.specs.declared.geometry.Wind.{Wind}
 use Rattle.situation.specs.declared.party.Visibility.{Visibility}
@@ -72,7 +73,8 @@ pub any_category : (P : VesselCategory → Bool) → T (all_categories P) → (c
 any_category P h = go (all_tacks (λ t. P (Sailing t))) (any_tack (λ t. P (Sailing t))) h
   where
     go : (b : Bool) → (T b → (t : Tack) → T (P (Sailing t)))
-        → T (b && (P PowerDriven && (P Fishing && (P ConstrainedByDraught && (P RestrictedInAbilityToManoeuvre && P NotUnderCommand))))) → (c : VesselCategory) → T (P c)
+        → T (b && (P PowerDriven && (P Fishing && (P ConstrainedByDraught && (P RestrictedInAbilityToManoeuvre && P NotUnderCommand)))))
+        → (c : VesselCategory) → T (P c)
     go b f h (Sailing t) = f (and_l b _ h) t
     go b f h PowerDriven = and_l (P PowerDriven) _ (and_r b _ h)
     go b f h Fishing = and_l (P Fishing) _ (and_r (P PowerDriven) _ (and_r b _ h))

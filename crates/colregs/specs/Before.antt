@@ -24,7 +24,7 @@ use Rattle.colregs.specs.declared.answer.Ruling.{Ruling}
 use Rattle.colregs.specs.Geometry.{seen_to_windward, geometry_of}
 use Rattle.colregs.specs.Ruling.{rule_number}
 use Rattle.colregs.specs.Text.{code}
-use Rattle.colregs.specs.Colregs.{Says, silent, says, Clause, clause, rule13, rule18, rule19, windward_gives_way, one_rank}
+use Rattle.colregs.specs.Colregs.{Says, Clause, clause, rule13, rule18, rule19, windward_gives_way, both_sail, one_rank}
 use Rattle.colregs.specs.Colregs.{encounter_of, decided, ruling_for, ruling_if_accepted}
 
 -- ---- Rule 12 as it was, and the ruling with it
@@ -37,21 +37,8 @@ sailing_vessels Tack.Port Tack.Unknown w = Undetermined
 sailing_vessels Tack.Starboard Tack.Unknown w = Undetermined
 sailing_vessels Tack.Unknown target w = Undetermined
 
-abbrev pub rule12_sailing : Tack → VesselCategory → Windward → Says
-rule12_sailing own (Sailing target) w = says (sailing_vessels own target w)
-rule12_sailing own PowerDriven w = silent
-rule12_sailing own Fishing w = silent
-rule12_sailing own ConstrainedByDraught w = silent
-rule12_sailing own RestrictedInAbilityToManoeuvre w = silent
-rule12_sailing own NotUnderCommand w = silent
-
 abbrev pub rule12 : VesselCategory → VesselCategory → Windward → Says
-rule12 (Sailing own) target w = rule12_sailing own target w
-rule12 PowerDriven target w = silent
-rule12 Fishing target w = silent
-rule12 ConstrainedByDraught target w = silent
-rule12 RestrictedInAbilityToManoeuvre target w = silent
-rule12 NotUnderCommand target w = silent
+rule12 own target w = both_sail (λ a b. sailing_vessels a b w) own target
 
 abbrev pub ranks_first : Encounter → VesselCategory → VesselCategory → Windward → List Clause
 ranks_first e own target w = clause Rule18 (rule18 own target) ∷ clause Rule12 (rule12 own target w) ∷ one_rank e

@@ -12,7 +12,8 @@ use Rattle.elementary.specs.declared.error.Refusal.{Refusal}
 use Rattle.motion.specs.Check.{verdict}
 use Rattle.situation.specs.declared.party.Tack.{Tack}
 use Rattle.situation.specs.declared.party.VesselCategory.{VesselCategory}
-use Rattle.situation.specs.declared.party.VesselCategory.TheVariants.{PowerDriven, Sailing, Fishing, ConstrainedByDraught, RestrictedInAbilityToManoeuvre, NotUnderCommand}
+use Rattle.situation.specs.declared.party.VesselCategory.TheVariants.{PowerDriven, Sailing, Fishing, ConstrainedByDraught, RestrictedInAbilityToManoeuvre}
+use Rattle.situation.specs.declared.party.VesselCategory.TheVariants.{NotUnderCommand}
 use Rattle.situation.specs.declared.party.Visibility.{Visibility}
 use Rattle.situation.specs.declared.party.Visibility.TheVariants.{InSight, Restricted}
 use Rattle.situation.specs.declared.party.Situation.{Situation}
@@ -194,21 +195,20 @@ sailing_vessels Tack.Port Tack.Unknown w = port_tack_keeps_clear w.seen_to_windw
 sailing_vessels Tack.Starboard Tack.Unknown w = Undetermined
 sailing_vessels Tack.Unknown target w = Undetermined
 
-abbrev pub rule12_sailing : Tack → VesselCategory → Wind → Says
-rule12_sailing own (Sailing target) w = says (sailing_vessels own target w)
-rule12_sailing own PowerDriven w = silent
-rule12_sailing own Fishing w = silent
-rule12_sailing own ConstrainedByDraught w = silent
-rule12_sailing own RestrictedInAbilityToManoeuvre w = silent
-rule12_sailing own NotUnderCommand w = silent
+-- what is said by tack; silent, where a vessel does not sail
+abbrev pub under_sail : (Tack → Says) → VesselCategory → Says
+under_sail by_tack (Sailing tack) = by_tack tack
+under_sail by_tack PowerDriven = silent
+under_sail by_tack Fishing = silent
+under_sail by_tack ConstrainedByDraught = silent
+under_sail by_tack RestrictedInAbilityToManoeuvre = silent
+under_sail by_tack NotUnderCommand = silent
+
+abbrev pub both_sail : (Tack → Tack → Responsibility) → VesselCategory → VesselCategory → Says
+both_sail duty own target = under_sail (λ a. under_sail (λ b. says (duty a b)) target) own
 
 abbrev pub rule12 : VesselCategory → VesselCategory → Wind → Says
-rule12 (Sailing own) target w = rule12_sailing own target w
-rule12 PowerDriven target w = silent
-rule12 Fishing target w = silent
-rule12 ConstrainedByDraught target w = silent
-rule12 RestrictedInAbilityToManoeuvre target w = silent
-rule12 NotUnderCommand target w = silent
+rule12 own target w = both_sail (λ a b. sailing_vessels a b w) own target
 
 -- ---- Rule 19, restricted visibility: no vessel stands on
 abbrev pub rule19 : Visibility → Says

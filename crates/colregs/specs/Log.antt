@@ -12,7 +12,8 @@ use Rattle.colregs.specs.declared.answer.Responsibility.TheVariants.{GiveWay, St
 use Rattle.colregs.specs.declared.answer.Rule.{Rule}
 use Rattle.colregs.specs.declared.answer.Rule.TheVariants.{Rule12, Rule13, Rule14, Rule15, Rule17, Rule18, Rule19}
 use Rattle.colregs.specs.declared.answer.Ruling.{Ruling}
-use Rattle.colregs.specs.Colregs.{Says, silent, says, Clause, own_overtakes, target_overtakes, is_head_on, side_of, forward_of_beam, to_starboard, is_overtaking}
+use Rattle.colregs.specs.Colregs.{Says, silent, says, Clause, own_overtakes, target_overtakes, is_head_on, side_of, forward_of_beam, to_starboard}
+use Rattle.colregs.specs.Colregs.{is_overtaking}
 
 -- ---- exactly one kind of encounter
 abbrev pub same_side : Side → Side → Bool

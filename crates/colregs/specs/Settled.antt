@@ -3,7 +3,8 @@
 use Rattle.std.specs.Prelude.{Bool, true, false, T, None, Some}
 use Rattle.situation.specs.declared.party.Tack.TheVariants as Tack
 use Rattle.situation.specs.declared.party.VesselCategory.{VesselCategory}
-use Rattle.situation.specs.declared.party.VesselCategory.TheVariants.{PowerDriven, Sailing, Fishing, ConstrainedByDraught, RestrictedInAbilityToManoeuvre, NotUnderCommand}
+use Rattle.situation.specs.declared.party.VesselCategory.TheVariants.{PowerDriven, Sailing, Fishing, ConstrainedByDraught, RestrictedInAbilityToManoeuvre}
+use Rattle.situation.specs.declared.party.VesselCategory.TheVariants.{NotUnderCommand}
 use Rattle.std.specs.declared.option.Option.{Option}
 use Rattle.motion.specs.declared.units.Direction.{Direction}
 use Rattle.situation.specs.declared.party.Situation.{Situation}

@@ -50,7 +50,8 @@ use Rattle.situation.specs.Arguments.{is_width, party_checks, situation_checks}
 use Rattle.situation.specs.Situation.{heading, party, situation, with_heading, with_wind_from}
 use Rattle.situation.specs.declared.party.Visibility.TheVariants.{Restricted}
 use Rattle.colregs.specs.Geometry.{aspect_of, geometry_of, is_closing, larger, range_rate, relative_of, speed_of}
-use Rattle.colregs.specs.Colregs.{abaft, decided, encounter_of, forward_of_beam, is_head_on, own_comes_up, own_overtakes, permitted, rule17_port, rule19_port, rule18, ruling_answer, ruling_for, ruling_of, side_of, rule19_starboard, target_comes_up, target_overtakes}
+use Rattle.colregs.specs.Colregs.{abaft, decided, encounter_of, forward_of_beam, is_head_on, own_comes_up, own_overtakes, permitted, rule17_port, rule19_port}
+use Rattle.colregs.specs.Colregs.{rule18, ruling_answer, ruling_for, ruling_of, side_of, rule19_starboard, target_comes_up, target_overtakes}
 use Rattle.colregs.specs.declared.answer.Encounter.TheVariants.{BeingOvertaken, Crossing, HeadOn, Overtaking}
 use Rattle.colregs.specs.declared.answer.Responsibility.TheVariants.{Both, GiveWay, StandOn, Undetermined}
 use Rattle.colregs.specs.declared.answer.Rule.TheVariants.{Rule12, Rule13, Rule14, Rule15, Rule17, Rule19}
@@ -76,7 +77,9 @@ use Rattle.colregs.proofs.Rows.{direction, heads, number, power, refuses, rules,
 use Rattle.avoidance.specs.Avoid.{avoid_answer, avoid_checks, avoided, seed, seeded_choice, seeded_side}
 use Rattle.report.specs.Contacts.{contact_lines, line_of}
 use Rattle.report.specs.Report.{search_answer, constraints_of, id_at, lines_of, policy_of, report}
-use Rattle.corners.proofs.Figures.{ahead, alteration_in, at, away, between, bits, closing, course_in, degrees, drift_in, kind, limiting_in, limits, magnitude_in, meets, miles, moving, north, off, on, passing_in, pattern, port_in, risk_in, ruling, searched, seconds, sheet, side_code, side_in, spelled, starboard_in, steering, time_in, turn, turning, unsure, widths, with_rate, within}
+use Rattle.corners.proofs.Figures.{ahead, alteration_in, at, away, between, bits, closing, course_in, degrees, drift_in, kind, limiting_in, limits}
+use Rattle.corners.proofs.Figures.{magnitude_in, meets, miles, moving, north, off, on, passing_in, pattern, port_in, risk_in, ruling, searched, seconds, sheet}
+use Rattle.corners.proofs.Figures.{side_code, side_in, spelled, starboard_in, steering, time_in, turn, turning, unsure, widths, with_rate, within}
 
 -- document 01's sample sheet: the header's words, and the contact's
 abbrev sample_header : List ℕ

@@ -25,7 +25,8 @@ use Rattle.avoidance.specs.Search.{search}
 use Rattle.clearance.specs.declared.traffic.Entry.{Entry}
 use Rattle.clearance.specs.Traffic.{target_of}
 use Rattle.ruled_search.specs.declared.RuledManoeuvre.{RuledManoeuvre}
-use Rattle.ruled_search.specs.Ruled.{situation_of, permitted_sides, sides_of, in_both, either, join_sides, shared_sides, ruled_checks, answered, ruled_if_accepted, ruled_answer, ruled}
+use Rattle.ruled_search.specs.Ruled.{situation_of, permitted_sides, sides_of, in_both, either, join_sides, shared_sides, ruled_checks, answered}
+use Rattle.ruled_search.specs.Ruled.{ruled_if_accepted, ruled_answer, ruled}
 use Rattle.ruled_search.specs.Before as Before
 
 -- the sides come from what a ruling permits

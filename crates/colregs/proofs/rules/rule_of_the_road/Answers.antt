@@ -28,5 +28,6 @@ returns-in_err-check_config c =
 
 pub returns : goal.returns
 returns c =
-    both _ _ _ (ruled _ _ _ _ (accepted (situation_checks c.args.s) (config_checks c.args.config) _ _ c.in_ok-check_situation.ensures c.in_ok-check_config.ensures)
+    both _ _ _ (ruled _ _ _ _
+    (accepted (situation_checks c.args.s) (config_checks c.args.config) _ _ c.in_ok-check_situation.ensures c.in_ok-check_config.ensures)
     c.geometry_of.ensures c.ruling_of.ensures)
