@@ -117,7 +117,7 @@ module _ (own : Vessel) (floor : Float) (t : Target) (o : FitVessel own) (f : Fi
       go (Ok (Stationary range)) k e = take range e k
       go (Err why) k e = absurd (not_blocked d e)
 
-no_nan : (x : Float) → T (finite x) → T (not (is_nan x))
+pub no_nan : (x : Float) → T (finite x) → T (not (is_nan x))
 unfolding is_nan
 no_nan nan f = absurd f
 no_nan (inf s) f = tt

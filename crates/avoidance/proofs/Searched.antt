@@ -1,16 +1,16 @@
 -- On accepted arguments the choice that is computed is document 01's choice, by `closest_point_of_approach`: every trial is an alteration that fits, and the two ways to see whether one clears agree.
-use Rattle.std.specs.Prelude.{None, Some}
+use Rattle.std.specs.Prelude.{None}
 use mathlib.Core.Path.{◌≡◌, refl, sym, ap, ◌∙◌, subst}
 use mathlib.Core.Bool.{Bool, true, false, cond}
-use mathlib.Core.List.{List, [], ◌∷◌, map, Memᴰ}
+use mathlib.Core.List.{List, map, Memᴰ}
 use Prim.Native.Nat.{ℕ, ◌*◌, ◌^◌}
 use lib.Dec.{T, lit≤}
 use lib.IntN.{pos}
 use lib.Ieee.{Float, binary64, lt, fits, of_bits, of_int}
 use lib.Ieee.Fits.{add-fits}
 use Rattle.laws.specs.Ops.{◌⊕◌}
-use Rattle.laws.specs.Fold.{fold}
 use Rattle.laws.specs.Size.{Small}
+use Rattle.laws.proofs.First.{agree}
 use Rattle.laws.proofs.Order.{le_trans_float}
 use Rattle.laws.proofs.Size.{small_of_tests, neg_small}
 use Rattle.motion.specs.declared.units.Distance.{Distance}
@@ -21,12 +21,11 @@ use Rattle.manoeuvre.specs.Trials.{trial, trials, half_turn, Limits}
 use Rattle.manoeuvre.proofs.Climbing.{is_trial_list}
 use Rattle.manoeuvre.proofs.Listed.{entry, ascending}
 use Rattle.clearance.specs.declared.contact.Target.{Target}
-use Rattle.avoidance.specs.declared.search.Chosen.{Chosen}
 use Rattle.clearance.specs.declared.Clearance.{Clearance}
 use Rattle.std.specs.declared.option.Option.{Option}
 use Rattle.clearance.specs.Clearing.{floor_of, moving}
 use Rattle.motion.specs.declared.side.BySide.{BySide}
-use Rattle.avoidance.specs.Search.{signed, chosen, or_first, first, smaller, side_choice, choice, trial_clears, search, trial_clears_computed, smallest}
+use Rattle.avoidance.specs.Search.{signed, chosen, chosen_at, first, smaller, side_choice, choice, trial_clears, search, trial_clears_computed, smallest}
 use Rattle.avoidance.specs.Fit.{FitVessel, FitTargets}
 use Rattle.avoidance.proofs.Prepared.{same_clears}
 use Rattle.avoidance.proofs.Smallest.{between_is_choice}
@@ -54,15 +53,9 @@ signed-small Starboard m s = s
 signed-small Port m s = neg_small s
 
 -- ---- two ways to clear that agree on the list choose alike
-same_steps : (f g : Float → Option Clearance) (side : Side) (c : Option Chosen) (ms : List Float) → ((m : Float) → Memᴰ m ms → f m ≡ g m) → fold (or_first f side) c ms ≡ fold (or_first g side) c ms
-unfolding fold or_first
-same_steps f g side c [] h = refl
-same_steps f g side (Some c) (m ∷ ms) h = same_steps f g side (Some c) ms (λ x r. h x (Memᴰ.tail r))
-same_steps f g side None (m ∷ ms) h = ap (λ k. fold (or_first f side) (chosen side m k) ms) (h m (Memᴰ.head refl)) ∙ same_steps f g side (chosen side m (g m)) ms (λ x r. h x (Memᴰ.tail r))
-
 pub same_first : (f g : Float → Option Clearance) (side : Side) (ms : List Float) → ((m : Float) → Memᴰ m ms → f m ≡ g m) → first f side ms ≡ first g side ms
 unfolding first
-same_first f g side ms h = same_steps f g side None ms h
+same_first f g side ms h = agree (chosen_at f side) (chosen_at g side) ms (λ m r. ap (chosen side m) (h m r))
 
 same_side_lem : (permitted : Bool) (f g : Float → Option Clearance) (side : Side) (ms : List Float) → ((m : Float) → Memᴰ m ms → f m ≡ g m)
     → side_choice permitted f side ms ≡ side_choice permitted g side ms

@@ -1,5 +1,6 @@
 -- On accepted arguments what is computed is the plain definition: a seed that is not above most is an alteration that fits, as every trial is.
 use Rattle.std.specs.Prelude.{None, Some, Err, Ok}
+use Rattle.std.specs.Option.{option_or}
 use mathlib.Core.Path.{◌≡◌, refl, sym, ap, ◌∙◌, subst}
 use mathlib.Core.Bool.{Bool, true, false, cond}
 use mathlib.Core.List.Memᴰ
@@ -45,7 +46,7 @@ use Rattle.manoeuvre.specs.declared.constraints.ManoeuvreConstraints.{ManoeuvreC
 use Rattle.manoeuvre.specs.Constraints.{permits_starboard, permits_port, constraint_checks}
 use Rattle.manoeuvre.specs.Trials.{trials, Limits}
 use Rattle.clearance.specs.Clearing.{floor_of, moving}
-use Rattle.avoidance.specs.Search.{signed, chosen, first, smaller, first_found, trial_clears, trial_clears_computed}
+use Rattle.avoidance.specs.Search.{signed, chosen, first, smaller, trial_clears, trial_clears_computed}
 use Rattle.relative_motion.specs.Sound.{HeldVessel, HeldContact, AllGood}
 use Rattle.relative_motion.proofs.Sizes.{all_good}
 use Rattle.avoidance.specs.Fit.{FitVessel, FitTarget, FitTargets}
@@ -106,8 +107,8 @@ module _ (least most : Float) (L : Limits least most) where
         → seeded_side permitted f side most (optional_seed own side least a) (trials least most) ≡ seeded_side permitted g side most (optional_seed own side least a) (trials least most)
     unfolding seeded_side
     same_side_lem permitted own a =
-        ap (λ s. cond permitted (first_found s (first f side (trials least most))) None) (seeds a)
-        ∙ ap (λ k. cond permitted (first_found (seed_choice g side most (optional_seed own side least a)) k) None) (same_first f g side (trials least most) (λ m h. same m (trial-small least most L m h)))
+        ap (λ s. cond permitted (option_or s (first f side (trials least most))) None) (seeds a)
+        ∙ ap (λ k. cond permitted (option_or (seed_choice g side most (optional_seed own side least a)) k) None) (same_first f g side (trials least most) (λ m h. same m (trial-small least most L m h)))
       where
         seeds : (a : Option Direction) → seed_choice f side most (optional_seed own side least a) ≡ seed_choice g side most (optional_seed own side least a)
         seeds None = refl

@@ -1,9 +1,10 @@
 -- The choice among the trials of both sides (01, 'Trial list': 'for each permitted side, starboard
 -- first … the first grid trial that clears. The smaller choice wins, starboard on equality. A trial
 -- is a side and a magnitude').
-use Rattle.std.specs.Prelude.{Bool, true, false, cond, List, Float, None, Some}
+use Rattle.std.specs.Prelude.{Bool, cond, List, Float, None, Some}
+use Rattle.std.specs.Option.{option_or}
 use Rattle.std.specs.Float.Ieee.{neg, lt}
-use Rattle.laws.specs.Fold.{fold}
+use Rattle.laws.specs.First as Listed
 use Rattle.motion.specs.declared.units.Distance.{Distance}
 use Rattle.motion.specs.declared.vessel.Vessel.{Vessel}
 use Rattle.motion.specs.Vessel.{velocity}
@@ -30,12 +31,11 @@ chosen side magnitude None = None
 chosen side magnitude (Some clearance) = Some (record { side = side; magnitude = record { 0 = magnitude }; clearance = clearance })
 
 -- ---- the first trial of a list that clears, on one side
-unfoldable pub or_first : (Float → Option Clearance) → Side → Option Chosen → Float → Option Chosen
-or_first clears side (Some c) magnitude = Some c
-or_first clears side None magnitude = chosen side magnitude (clears magnitude)
+abbrev pub chosen_at : (Float → Option Clearance) → Side → Float → Option Chosen
+chosen_at clears side magnitude = chosen side magnitude (clears magnitude)
 
 unfoldable pub first : (Float → Option Clearance) → Side → List Float → Option Chosen
-first clears side magnitudes = fold (or_first clears side) None magnitudes
+first clears side magnitudes = Listed.first (chosen_at clears side) magnitudes
 
 -- starboard's choice and port's: the smaller, starboard on equality
 abbrev pub smaller : Option Chosen → Option Chosen → Option Chosen
@@ -64,25 +64,13 @@ search own targets desired sides least most = choice sides (trial_clears own tar
 abbrev pub tried : Bool → Side → Float → Option Clearance → Option Chosen
 tried permitted side magnitude clearance = cond permitted (chosen side magnitude clearance) None
 
-abbrev pub first_found : Option Chosen → Option Chosen → Option Chosen
-first_found (Some c) other = Some c
-first_found None other = other
-
-abbrev pub is_found : Option Chosen → Bool
-is_found None = false
-is_found (Some c) = true
-
 unfoldable pub both : BySide Bool → (Side → Float → Option Clearance) → Float → Option Chosen
 both sides clears magnitude =
-    first_found (tried sides.starboard Starboard magnitude (clears Starboard magnitude))
+    option_or (tried sides.starboard Starboard magnitude (clears Starboard magnitude))
     (tried sides.port Port magnitude (clears Port magnitude))
 
-unfoldable pub or_both : BySide Bool → (Side → Float → Option Clearance) → Option Chosen → Float → Option Chosen
-or_both sides clears (Some c) magnitude = Some c
-or_both sides clears None magnitude = both sides clears magnitude
-
 unfoldable pub between : BySide Bool → (Side → Float → Option Clearance) → List Float → Option Chosen
-between sides clears magnitudes = fold (or_both sides clears) None magnitudes
+between sides clears magnitudes = Listed.first (both sides clears) magnitudes
 
 unfoldable pub trial_clears_computed : Vessel → Float → List Moving → Side → Float → Option Clearance
 trial_clears_computed own floor scene side magnitude = clears_computed (velocity (altered own (signed side magnitude))) floor scene

@@ -3,6 +3,7 @@
 -- least, not above most) is its choice if it clears, else the first grid trial that clears. The
 -- smaller choice wins, starboard on equality').
 use Rattle.std.specs.Prelude.{Bool, true, false, cond, List, Float, None, Some, Err, Ok}
+use Rattle.std.specs.Option.{option_or}
 use Rattle.std.specs.Float.Ieee.{lt, le}
 use Rattle.laws.specs.Ops.{◌⊖◌}
 use Rattle.math.specs.Sign.{abs}
@@ -22,7 +23,7 @@ use Rattle.manoeuvre.specs.declared.constraints.ManoeuvreConstraints.{ManoeuvreC
 use Rattle.manoeuvre.specs.Constraints.{permits_starboard, permits_port}
 use Rattle.manoeuvre.specs.Trials.{trials}
 use Rattle.motion.specs.declared.side.BySide.{BySide}
-use Rattle.avoidance.specs.Search.{signed, chosen, first, smaller, first_found}
+use Rattle.avoidance.specs.Search.{signed, chosen, first, smaller}
 
 -- ---- the seeds: the exact courses, none where there is no such course
 abbrev pub no_courses : BySide (Option Direction)
@@ -51,7 +52,7 @@ seed_choice clears side most (Some m) = cond (le m most) (chosen side m (clears 
 -- ---- the choice of a side, and of both
 unfoldable pub seeded_side : Bool → (Float → Option Clearance) → Side → Float → Option Float → List Float → Option Chosen
 seeded_side permitted clears side most seed magnitudes =
-    cond permitted (first_found (seed_choice clears side most seed) (first clears side magnitudes)) None
+    cond permitted (option_or (seed_choice clears side most seed) (first clears side magnitudes)) None
 
 unfoldable pub seeded_choice : Vessel → (Side → Float → Option Clearance) → BySide (Option Direction) → ManoeuvreConstraints → Option Chosen
 seeded_choice own clears courses c =

@@ -1,4 +1,4 @@
--- What is said of the first trial of a list that clears, and of the smaller of two such.
+-- What is said of a choice among the trials of both sides.
 use Rattle.std.specs.Prelude.{◌≡◌, Bool, T, Float, None, Some}
 use mathlib.Core.List.{List, Memᴰ}
 use Rattle.std.specs.Float.Ieee.{eq, lt}
@@ -8,12 +8,6 @@ use Rattle.clearance.specs.declared.Clearance.{Clearance}
 use Rattle.std.specs.declared.option.Option.{Option}
 use Rattle.motion.specs.declared.side.BySide.{BySide}
 use Rattle.avoidance.specs.declared.search.Chosen.{Chosen}
-
-pub record IsFirst (clears : Float → Option Clearance) (side : Side) (magnitudes : List Float) (c : Chosen) : Type 0 where
-  pub on_side : c.side ≡ side
-  pub listed : Memᴰ c.magnitude.0 magnitudes
-  pub clear : clears c.magnitude.0 ≡ Some c.clearance
-  pub least : (m : Float) → Memᴰ m magnitudes → T (lt m c.magnitude.0) → clears m ≡ None
 
 abbrev pub allows : BySide Bool → Side → Bool
 allows s Starboard = s.starboard

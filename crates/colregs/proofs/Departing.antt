@@ -5,7 +5,7 @@
 use Rattle.std.specs.List.{list_all, list_any}
 use mathlib.Core.Path.{◌≡◌, refl, sym, ap, ◌∙◌, subst}
 use mathlib.Core.Bool.{Bool, true, false, ◌&&◌, ◌||◌, not, cond, beq}
-use Prim.Native.Nat.{ℕ, zero, suc, ◌*◌}
+use Prim.Native.Nat.{ℕ, ◌*◌}
 use mathlib.Core.Logic.{◌⊎◌, inl, inr}
 use mathlib.Core.List.{List, [], ◌∷◌, Memᴰ}
 use lib.Dec.{T, eqb}
@@ -19,12 +19,9 @@ use Rattle.math.specs.Sign.{abs}
 use Rattle.math.specs.Fold as Fold
 use Rattle.math.specs.Fold.{half_turn}
 use Rattle.situation.specs.Arguments.{quarter_turn}
-use Rattle.situation.specs.declared.party.Tack.{Tack}
 use Rattle.situation.specs.declared.party.Visibility.{Visibility}
 use Rattle.situation.specs.declared.party.Visibility.TheVariants.{InSight, Restricted}
 use Rattle.situation.specs.declared.party.VesselCategory.{VesselCategory}
-use Rattle.situation.specs.declared.party.VesselCategory.TheVariants.{PowerDriven, Sailing, Fishing, ConstrainedByDraught, RestrictedInAbilityToManoeuvre}
-use Rattle.situation.specs.declared.party.VesselCategory.TheVariants.{NotUnderCommand}
 use Rattle.situation.specs.declared.config.ColregsConfig.{ColregsConfig}
 use Rattle.colregs.specs.declared.geometry.Wind.{Wind}
 use Rattle.colregs.specs.declared.geometry.Geometry.{Geometry}

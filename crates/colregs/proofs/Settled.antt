@@ -20,7 +20,7 @@ use Rattle.situation.specs.declared.config.ColregsConfig.{ColregsConfig}
 use Rattle.situation.specs.Arguments.{quarter_turn}
 use Rattle.colregs.specs.declared.geometry.Windward.{Windward}
 use Rattle.colregs.specs.declared.geometry.Wind.{Wind}
-use Rattle.colregs.specs.Geometry.{windward_of, wind_of, geometry_of}
+use Rattle.colregs.specs.Geometry.{windward_of, geometry_of}
 use Rattle.colregs.specs.declared.answer.Encounter.{Encounter}
 use Rattle.colregs.specs.declared.answer.Encounter.TheVariants.{Overtaking, BeingOvertaken, HeadOn, Crossing}
 use Rattle.colregs.specs.declared.answer.Rule.{Rule}

@@ -7,7 +7,6 @@ use mathlib.Core.Bool.{Bool, true, false, ◌&&◌, not, cond}
 use Prim.Native.Nat.{ℕ}
 use mathlib.Core.List.{◌∷◌, ◌++◌}
 use lib.Dec.{T, eqb, eqb→eq}
-use lib.Ieee.{Float}
 use mathlib.Core.Logic.{inl, inr}
 use lib.Ieee.Fits.{and_l, and_r}
 use lib.Ieee.Bits.{is_true, is_false}
@@ -28,7 +27,7 @@ use Rattle.colregs.specs.declared.geometry.Wind.{Wind}
 use Rattle.colregs.specs.declared.geometry.Geometry.{Geometry}
 use Rattle.colregs.specs.declared.answer.Encounter.{Encounter}
 use Rattle.colregs.specs.declared.answer.Responsibility.{Responsibility}
-use Rattle.colregs.specs.declared.answer.Responsibility.TheVariants.{GiveWay, StandOn, Both, Undetermined}
+use Rattle.colregs.specs.declared.answer.Responsibility.TheVariants.{GiveWay, Undetermined}
 use Rattle.colregs.specs.declared.answer.Rule.{Rule}
 use Rattle.colregs.specs.declared.answer.Rule.TheVariants.{Rule12, Rule13, Rule14, Rule15, Rule17, Rule18, Rule19}
 use Rattle.colregs.specs.declared.answer.Decision.{Decision}

@@ -8,6 +8,7 @@ use Prim.Native.Nat.{ℕ}
 use Prim.Native.String.{String}
 use lib.ListN.{length}
 use lib.Ieee.{add, div, eq, le, lt, mul, neg, of_bits, of_int, rem, round, size, sub, to_bits, to_unsigned}
+use Rattle.laws.specs.First as Listed
 use Rattle.laws.specs.Fold.{fold}
 use Rattle.laws.specs.Rows.{Row, every, row}
 use Rattle.laws.specs.Units.{units_of}
@@ -65,7 +66,7 @@ use Rattle.manoeuvre.specs.Manoeuvre as manoeuvres
 use Rattle.manoeuvre.specs.declared.constraints.PermittedSides.TheVariants as Sides
 use Rattle.clearance.specs.Clearing.{altered, clearing, clears, floor_of, nearer, contact_clears, tally}
 use Rattle.clearance.specs.Traffic.{contacts_checks, entry_checks, target_of}
-use Rattle.avoidance.specs.Search.{choice, search, first, or_first, side_choice, trial_clears}
+use Rattle.avoidance.specs.Search.{choice, search, first, side_choice, trial_clears}
 use Rattle.ruled_search.specs.Ruled.{answered, in_both, ruled, ruled_answer, ruled_checks, shared_sides, sides_of}
 use Rattle.sheet_record.specs.Word.{in_order, layout, ordered, words}
 use Rattle.sheet_record.specs.Record.{contact_count, first_rows, header_of, readable, row_from, rows_of}
@@ -253,5 +254,5 @@ table =
     ∷ []
 
 pub holds : every table ≡ true
-unfolding abaft abs add along alter_line altered angle_steps search_answer answered approach approach_from arcsine.arcsine_steps arcsine.arcsine_units arcsine.at_most arcsine.fits_in arcsine.rest arcsine.rest_step arcsine.scale arcsine.scale_from arcsine.upper_steps arctangent_steps asin.asin asin.in_domain aspect_of assess_answer assessment at_speed atan2 avoid_answer avoid_checks avoidance_of avoided both_finite bow_answer bytes category_checks category_of choice search choice_of circular.from_units circular.in_domain circular.scaled clamped clearing clears clock closest closing_rate code_checks constraint_checks constraints_answer constraints_of contact_count contact_line contact_lines contacts_checks cos cosine_divisors cosine_step cosine_units course_answer course_for cpa_answer crossing decided decimal_of degrees_per_radian determinant difference digits_up_to direction_of distance div drift_of drift_per_hour encounter_checks encounter_of entry_checks entry_of eq even geometry_of first first_rows flat_map floor_of fold folds.turned forward_of_beam from_hours from_seconds grazing greatest greatest_to half_fold reciprocal header_of heading horner hours_of hypot hypots.in_domain id_at in_both in_order in_range is_accepted is_before is_closing is_direction is_distance is_effectively_zero is_head_on is_speed is_width nearer larger last layout le line_of lines_of lt manoeuvres.manoeuvre manoeuvres.side_of manoeuvres.turned mul nanos_in neg negative not_above octant of_bits of_int offered offset or_first ordered own_comes_up own_of own_overtakes party party_checks party_of contact_clears permitted placed plot_answer plot_checks plot_verdict plots.target_of policy_answer policy_of rule17_port rule19_port quarters range_rate readable refused_line relative_motion relative_of relative_speed relative_velocity rem removed report resolved rest risk_at round row_from rows_of rule18 ruled ruled_answer ruled_checks ruling_answer ruling_for ruling_of scaled_by seed seeded_choice seeded_side shared_sides sheet_verdict side_choice side_of sides_of sin sine_divisors sine_step sine_units situation situation_checks size solution solved speed_of spelled sqrt square rule19_starboard sub table tally target_comes_up target_of target_overtakes thousandths_of three_decimals time_of time_to_go to_bits to_degrees to_radians to_unsigned to_usize trial trial_clears trials trials_from turned_minus turned_units unit units_of up_to value_checks values.scaled velocity verdict vessel_of visibility_of whole_fold wind_from with_heading with_rate_of_turn with_wind_from words
+unfolding abaft abs add along alter_line altered angle_steps search_answer answered approach approach_from arcsine.arcsine_steps arcsine.arcsine_units arcsine.at_most arcsine.fits_in arcsine.rest arcsine.rest_step arcsine.scale arcsine.scale_from arcsine.upper_steps arctangent_steps asin.asin asin.in_domain aspect_of assess_answer assessment at_speed atan2 avoid_answer avoid_checks avoidance_of avoided both_finite bow_answer bytes category_checks category_of choice search choice_of circular.from_units circular.in_domain circular.scaled clamped clearing clears clock closest closing_rate code_checks constraint_checks constraints_answer constraints_of contact_count contact_line contact_lines contacts_checks cos cosine_divisors cosine_step cosine_units course_answer course_for cpa_answer crossing decided decimal_of degrees_per_radian determinant difference digits_up_to direction_of distance div drift_of drift_per_hour encounter_checks encounter_of entry_checks entry_of eq even geometry_of first first_rows flat_map floor_of fold folds.turned forward_of_beam from_hours from_seconds grazing greatest greatest_to half_fold reciprocal header_of heading horner hours_of hypot hypots.in_domain id_at in_both in_order in_range is_accepted is_before is_closing is_direction is_distance is_effectively_zero is_head_on is_speed is_width nearer larger last layout le line_of lines_of lt manoeuvres.manoeuvre manoeuvres.side_of manoeuvres.turned mul nanos_in neg negative not_above octant of_bits of_int offered offset Listed.first ordered own_comes_up own_of own_overtakes party party_checks party_of contact_clears permitted placed plot_answer plot_checks plot_verdict plots.target_of policy_answer policy_of rule17_port rule19_port quarters range_rate readable refused_line relative_motion relative_of relative_speed relative_velocity rem removed report resolved rest risk_at round row_from rows_of rule18 ruled ruled_answer ruled_checks ruling_answer ruling_for ruling_of scaled_by seed seeded_choice seeded_side shared_sides sheet_verdict side_choice side_of sides_of sin sine_divisors sine_step sine_units situation situation_checks size solution solved speed_of spelled sqrt square rule19_starboard sub table tally target_comes_up target_of target_overtakes thousandths_of three_decimals time_of time_to_go to_bits to_degrees to_radians to_unsigned to_usize trial trial_clears trials trials_from turned_minus turned_units unit units_of up_to value_checks values.scaled velocity verdict vessel_of visibility_of whole_fold wind_from with_heading with_rate_of_turn with_wind_from words
 holds = refl

@@ -4,10 +4,12 @@ pub mod Bools
 pub mod Compare
 pub mod Error
 pub mod Exact
+pub mod First
 pub mod Fold
 pub mod Members
 pub mod Numbers
 pub mod Order
+pub mod Parts
 pub mod Pattern
 pub mod Ratio
 pub mod Rounding

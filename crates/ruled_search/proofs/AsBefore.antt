@@ -1,5 +1,5 @@
 -- Request R-2 changes no answer of the ruled search: every ruling permits what it did.
-use Rattle.std.specs.Prelude.{Bool, true, false, map, Err, Ok}
+use Rattle.std.specs.Prelude.{Bool, false, map, Err, Ok}
 use mathlib.Core.Path.{◌≡◌, refl, sym, ap, ◌∙◌}
 use Prim.Native.Nat.{ℕ}
 use mathlib.Core.List.{List, [], ◌∷◌}
@@ -24,7 +24,6 @@ use Rattle.manoeuvre.specs.declared.constraints.ManoeuvreConstraints.{ManoeuvreC
 use Rattle.avoidance.specs.Search.{search}
 use Rattle.clearance.specs.declared.traffic.Entry.{Entry}
 use Rattle.clearance.specs.Traffic.{target_of}
-use Rattle.ruled_search.specs.declared.RuledManoeuvre.{RuledManoeuvre}
 use Rattle.ruled_search.specs.Ruled.{situation_of, permitted_sides, sides_of, in_both, either, join_sides, shared_sides, ruled_checks, answered}
 use Rattle.ruled_search.specs.Ruled.{ruled_if_accepted, ruled_answer, ruled}
 use Rattle.ruled_search.specs.Before as Before

@@ -16,7 +16,6 @@ use Rattle.motion.specs.declared.vessel.Vessel.{Vessel}
 use Rattle.motion.specs.Vessel.{offset, relative_velocity}
 use Rattle.relative_motion.specs.declared.approach.Cpa.{Cpa}
 use Rattle.relative_motion.specs.declared.approach.Track.{Track}
-use Rattle.relative_motion.specs.declared.approach.Track.TheVariants as Track
 use Rattle.std.specs.declared.option.Option.{Option}
 use Rattle.std.specs.declared.result.Result.{Result}
 use Rattle.elementary.specs.declared.error.Refusal.{Refusal}
