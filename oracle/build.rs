@@ -23,9 +23,9 @@ const LISTED: &[(&str, &str)] = &[
     ("traffic_avoidance", "crates/kinavis-traffic/src/avoidance.rs"),
 ];
 
-/// The listed files whose private parts are references: the picture's fields, and `search` over lists of contacts. A line at the end of the
-/// copy names a child module in `oracle/src/kinavis/`, since a child may use what is private to its parent; the text before that line
-/// is the file's.
+/// The listed files whose private parts are references: the picture's fields, and `search` and `clears` over lists of contacts. A line
+/// at the end of the copy names a child module in `oracle/src/kinavis/`, since a child may use what is private to its parent; the text
+/// before that line is the file's.
 const PROBED: &[(&str, &str)] = &[("traffic_assessment", "picture_probe.rs"), ("traffic_avoidance", "probe.rs")];
 
 /// The listed files that a listed file names as its own module, which Rust then looks for beside it.

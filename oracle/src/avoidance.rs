@@ -1,13 +1,15 @@
-//! Avoidance: the port's `avoid`, `search` and ruled search against avoidance.rs on the port's elementary functions, behind document
-//! 01's argument checks.
+//! Avoidance: the port's `avoid`, `search`, ruled search and slowing search against avoidance.rs on the port's elementary functions,
+//! behind document 01's argument checks.
 
 mod lists;
 mod one;
 mod ruled;
+mod slowing;
 
 pub use lists::{how_many, own, style, traffic};
 pub use one::{answered, Avoid};
 pub use ruled::RuledCase;
+pub use slowing::SlowingCase;
 
 use lists::Search;
 use one::compare_stated;
@@ -28,11 +30,13 @@ use crate::traffic_calls::{
 };
 use crate::vectors::Module;
 
-/// Adds records and answers of `avoid`, the search and the ruled search. An answer is the port's once it is known to be the Rust's.
+/// Adds records and answers of `avoid`, the search, the ruled search and the slowing search. An answer is the port's once it is known to
+/// be the Rust's.
 pub fn write(module: &mut Module) {
     write_cases::<Avoid>(module, 150, 9);
     write_cases::<Search>(module, 60, 6);
     write_cases::<RuledCase>(module, 100, 9);
+    write_cases::<SlowingCase>(module, 100, 10);
 }
 
 /// So many cases that fit a record, with every part of their answers.
@@ -178,26 +182,30 @@ fn rate(random: &mut Random) -> f64 {
     }
 }
 
-/// How many cases of `avoid`, `search` and the ruled search there are for a count.
-fn counts(count: u64) -> (u64, u64, u64) {
-    (count, count / 10, count / 5)
+/// How many cases of `avoid`, `search`, the ruled search and the slowing search there are for a count.
+fn counts(count: u64) -> [u64; 4] {
+    [count, count / 10, count / 5, count / 10]
 }
 
 /// Counts what the references answer on the cases that are compared.
 pub fn outcomes(count: u64) {
-    assert!(compare_stated());
-    let (avoid, search, ruled) = counts(count);
+    assert!(compare_stated() && slowing::compare_stated());
+    let [avoid, search, ruled, slowing] = counts(count);
     look::<Avoid>(avoid);
     look::<Search>(search);
     look::<RuledCase>(ruled);
+    look::<SlowingCase>(slowing);
 }
 
-/// Compares `avoid` on `count` cases, `search` on a tenth as many and the ruled search on a fifth as many, and counts what occurs.
+/// Compares `avoid` on `count` cases, `search` and the slowing search on a tenth as many and the ruled search on a fifth as many, and
+/// counts what occurs.
 pub fn compare(count: u64) -> bool {
-    let (avoid, search, ruled) = counts(count);
+    let [avoid, search, ruled, slowing] = counts(count);
     let mut good = compare_stated();
+    good &= slowing::compare_stated();
     good &= compare_cases::<Avoid>(avoid);
     good &= compare_cases::<Search>(search);
     good &= compare_cases::<RuledCase>(ruled);
+    good &= compare_cases::<SlowingCase>(slowing);
     good
 }

@@ -4,7 +4,7 @@ use std::hint::black_box;
 use std::time::Instant;
 
 use crate::angle::{wrap180, wrap360};
-use crate::avoidance::{self, Avoid, RuledCase};
+use crate::avoidance::{self, Avoid, RuledCase, SlowingCase};
 use crate::inputs::Random;
 use crate::{assessment, calls, motion, port, ruling, sheet, sheet_compare, traffic_calls};
 
@@ -97,6 +97,7 @@ pub fn all() {
     rule_of_the_road();
     assess();
     avoid_and_search();
+    slowing_search();
     reports();
     growth();
 }
@@ -190,4 +191,24 @@ fn avoid_and_search() {
         let cases: Vec<&RuledCase> = sets[i - 1].iter().collect();
         row(name, measure(&cases, |case| case.port(1)), six[i], std[i]);
     }
+}
+
+/// The slowing search where nothing clears, beside the port's ruled search and the Rust's `search` on the standard library's functions,
+/// each with every trial speed as own speed; and on the usual pictures, beside the ruled search.
+fn slowing_search() {
+    let (worst, by_speed) = SlowingCase::worst();
+    let time = measure(&[&worst], |case| case.port(1));
+    let ruled = 8.0 * measure(&by_speed.iter().collect::<Vec<_>>(), |case| case.port(1));
+    println!("slowing search, 32 contacts, nothing clears {:9.1} µs", time / 1000.0);
+    beside("ruled searches at each of eight speeds", time, ruled);
+    beside("the Rust's `search` at each of eight speeds", time, 8.0 * std_times(&[], &[by_speed])[1]);
+    let (slowing, ruled) = (SlowingCase::usual(), RuledCase::usual());
+    let time = measure(&slowing.iter().collect::<Vec<_>>(), |case| case.port(1));
+    println!("slowing search, 8 contacts, usual {:19.1} µs", time / 1000.0);
+    beside("ruled search", time, measure(&ruled.iter().collect::<Vec<_>>(), |case| case.port(1)));
+}
+
+/// Another time, and how much of it a time is.
+fn beside(name: &str, time: f64, other: f64) {
+    println!("  beside {name:<44} {:9.1} µs {:6.2}", other / 1000.0, time / other);
 }

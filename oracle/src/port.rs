@@ -63,6 +63,7 @@ macro_rules! words_exports {
 words_exports! {
     port_closest_point_of_approach port_approach_distance port_target_from_plot port_bow_crossing_range port_course_for_cpa
     port_relative_bearing_of port_rule_of_the_road port_precedence port_assess port_avoid port_search port_ruled_search port_collision_picture
+    port_slowing_search
 }
 
 /// A call of an export: its number in the records, and its arguments.
@@ -207,6 +208,11 @@ pub fn picture(own: [f64; 2], contacts: impl Iterator<Item = [f64; 4]>, limit: f
     let mut words = traffic(own, contacts.map(|contact| (contact, (0, None))));
     [words[14], words[15]] = [limit.to_bits(), secs];
     Call { which: 12, words }
+}
+
+/// The slowing search, which takes the words of the ruled search.
+pub fn slowing(ruled: Call<Vec<u64>>) -> Call<Vec<u64>> {
+    Call { which: 13, words: ruled.words }
 }
 
 extern "C" {

@@ -1,8 +1,8 @@
 -- The loop over the contacts: each turn takes one more of those that are left, and one that blocks decides, wherever it stands.
-use Rattle.std.specs.Prelude.{None, Some, is_some, MatchBool, HoldsAt}
+use Rattle.std.specs.Prelude.{None, Some, MatchBool, HoldsAt}
 use Rattle.std.specs.Option.{unwrap_or}
 use mathlib.Core.Path.{◌≡◌, refl, sym, ap, ◌∙◌}
-use mathlib.Core.Bool.{Bool, true, false, not, true≢false}
+use mathlib.Core.Bool.{Bool, true, false, true≢false}
 use mathlib.Core.List.{List, [], ◌∷◌, map}
 use Prim.Native.Nat.{ℕ, zero, suc, ◌+◌, ◌<◌}
 use native.Mathlib.Nat.{le_of_lt, lt_of_lt_of_le}
@@ -17,10 +17,6 @@ use Rattle.clearance.specs.Clearing.{nearer, nobody, tally, clearing}
 
 pub no : {P : Type 0} → false ≡ true → P
 no e = absurd (true≢false (sym e))
-
-pub is_none_lem : (p : Option Distance) (b : Bool) → is_some p ≡ not b → b ≡ true → p ≡ None
-is_none_lem None b e h = refl
-is_none_lem (Some d) b e h = absurd (true≢false (e ∙ ap not h))
 
 -- one that blocks may stand later
 later : (place : ℕ) (closest : Option Clearance) (p : Option Distance) (ps : List (Option Distance))

@@ -60,12 +60,34 @@ fn is_suspect(own: Components, m: Moving, square: f64) -> bool {
     seen.range_rate() < 0.0 && cross * cross < square * speed
 }
 
+// Whether a contact is a suspect and blocks the course.
+fn is_blocker(own: Components, m: Moving, floor: f64) -> bool
+    ensures { result ≡ true → Spec.contact_clears_computed own floor m ≡ None }
+{
+    is_suspect(own, m, floor * floor * DOUBT) && contact_clears(own, m, floor).is_none()
+}
+
 // Whether one of the suspects blocks the course.
 fn suspect_blocks(own: Components, scene: &[Moving], floor: f64) -> bool
     ensures { result ≡ true → Spec.clears_computed own floor scene.now ≡ None }
 {
-    let square = floor * floor * DOUBT;
-    scene.iter().any(|m| is_suspect(own, *m, square) && contact_clears(own, *m, floor).is_none())
+    scene.iter().any(|m| is_blocker(own, *m, floor))
+}
+
+// The place of a contact that blocks the course, where a suspect does. Nothing is promised of it:
+// one that blocks a course is likely to block the next.
+pub fn likely_blocker(own: Components, scene: &[Moving], floor: f64) -> usize {
+    scene
+        .iter()
+        .position(|m| is_blocker(own, *m, floor))
+        .unwrap_or(0)
+}
+
+// Whether the contact at a place is a suspect that blocks the course.
+pub fn blocks_at(own: Components, scene: &[Moving], floor: f64, place: usize) -> bool
+    ensures { result ≡ true → Spec.clears_computed own floor scene.now ≡ None }
+{
+    place < scene.len() && is_blocker(own, scene[place], floor)
 }
 
 // All contacts, each worked out.

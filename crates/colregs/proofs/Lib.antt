@@ -6,5 +6,6 @@ pub mod ResponsibilityCode
 pub mod Rows
 pub mod RulesCode
 pub mod Settled
+pub mod Slowing
 pub mod ToWindward
 pub mod Trying

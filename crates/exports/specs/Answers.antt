@@ -31,6 +31,7 @@ use Rattle.manoeuvre.specs.declared.AvoidanceManoeuvre.{AvoidanceManoeuvre}
 use Rattle.manoeuvre.specs.Manoeuvre.{side_of}
 use Rattle.avoidance.specs.declared.search.Chosen.{Chosen}
 use Rattle.ruled_search.specs.declared.RuledManoeuvre.{RuledManoeuvre}
+use Rattle.slowing_search.specs.declared.SlowingManoeuvre.{SlowingManoeuvre}
 
 -- ---- a word
 -- the word of a place, 0 for one beyond the last
@@ -189,6 +190,14 @@ ruled m = turn (side m.side) (pattern m.magnitude.0) (pattern m.course.0) (patte
 abbrev pub ruled_words : Result RuledManoeuvre Refusal → List ℕ
 ruled_words (Ok m) = ruled m
 ruled_words (Err why) = refused 9 why
+
+-- the slowing search: the same, and the speed
+abbrev pub slowing : SlowingManoeuvre → List ℕ
+slowing m = ruled m.turn ++ (pattern m.speed.0 ∷ [])
+
+abbrev pub slowing_words : Result SlowingManoeuvre Refusal → List ℕ
+slowing_words (Ok m) = slowing m
+slowing_words (Err why) = refused 10 why
 
 -- the search alone, which refuses nothing: whether a trial was found, its side and magnitude, the
 -- passing distance, the limiting contact

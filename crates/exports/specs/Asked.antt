@@ -17,20 +17,25 @@ use Rattle.relative_motion.specs.Approach.{cpa_answer, approach_distance_answer,
 use Rattle.relative_motion.specs.Bow.{bow_answer}
 use Rattle.relative_motion.specs.Plot.{plot_answer}
 use Rattle.relative_motion.specs.Course.{course_answer}
+use Rattle.situation.specs.declared.party.Circumstances.{Circumstances}
 use Rattle.situation.specs.Situation.{with_contact}
 use Rattle.colregs.specs.declared.answer.Ruling.{Ruling}
 use Rattle.colregs.specs.Colregs.{ruling_answer}
 use Rattle.assessment.specs.declared.assess.CollisionAssessment.{CollisionAssessment}
 use Rattle.assessment.specs.Assess.{assess_answer}
 use Rattle.manoeuvre.specs.declared.AvoidanceManoeuvre.{AvoidanceManoeuvre}
+use Rattle.manoeuvre.specs.declared.constraints.ManoeuvreConstraints.{ManoeuvreConstraints}
 use Rattle.manoeuvre.specs.Constraints.{permits}
 use Rattle.clearance.specs.Clearing.{floor_of, moving}
+use Rattle.clearance.specs.declared.traffic.Entry.{Entry}
 use Rattle.clearance.specs.Traffic.{count_checks, contacts_checks, targets}
 use Rattle.avoidance.specs.declared.search.Chosen.{Chosen}
 use Rattle.avoidance.specs.Search.{smallest}
 use Rattle.avoidance.specs.Avoid.{avoid_answer}
 use Rattle.ruled_search.specs.declared.RuledManoeuvre.{RuledManoeuvre}
 use Rattle.ruled_search.specs.Ruled.{ruled_answer}
+use Rattle.slowing_search.specs.declared.SlowingManoeuvre.{SlowingManoeuvre}
+use Rattle.slowing_search.specs.Slowing.{slowing_answer}
 use Rattle.exports.specs.Arguments.{own, around, desired, sides, constraints, policy, contacts, entry, entries, elapsed, config, float, code}
 
 -- what is asked of one that may be refused
@@ -81,16 +86,28 @@ avoid_asked ws =
     (given (constraints ws) (avoid_answer v e.contact e.target.motion (desired ws))))
 
 -- the count, own craft, the contacts, the wind and the desired distance, then the constraints
-abbrev pub ruled_asked : List ℕ → Result RuledManoeuvre Refusal
-ruled_asked ws =
-    let a = around ws in
-    let es = entries ws in
+abbrev pub search_constraints : List ℕ → Circumstances → List Entry → Distance → Result ManoeuvreConstraints Refusal
+search_constraints ws a es d =
     after (checked (count_checks (length (contacts ws))))
     (after (checked (party_checks a.own))
     (after (checked (contacts_checks es))
     (after (checked (optional_checks a.wind_from))
-    (after (checked (distance_checks (desired ws)))
-    (given (constraints ws) (ruled_answer a.own (length es) es a.visibility a.wind_from (desired ws)))))))
+    (after (checked (distance_checks d))
+    (constraints ws)))))
+
+abbrev pub ruled_asked : List ℕ → Result RuledManoeuvre Refusal
+ruled_asked ws =
+    let a = around ws in
+    let es = entries ws in
+    given (search_constraints ws a es (desired ws))
+    (ruled_answer a.own (length es) es a.visibility a.wind_from (desired ws))
+
+abbrev pub slowing_asked : List ℕ → Result SlowingManoeuvre Refusal
+slowing_asked ws =
+    let a = around ws in
+    let es = entries ws in
+    given (search_constraints ws a es (desired ws))
+    (slowing_answer a.own (length es) es a.visibility a.wind_from (desired ws))
 
 -- the search alone, on the sides and between the alterations that the words say
 abbrev pub search_asked : List ℕ → Option Chosen

@@ -15,6 +15,7 @@ use relative_motion::approach::{Approach, ApproachDistance, Cpa};
 use relative_motion::course::Avoidance;
 use relative_motion::plot::TargetSolution;
 use ruled_search::RuledManoeuvre;
+use slowing_search::SlowingManoeuvre;
 use std::num::f64_to_bits_with_nan;
 
 // ---- a word
@@ -350,6 +351,40 @@ pub(crate) fn ruled_words(answer: Result<RuledManoeuvre, Refusal>) -> [u64; 9]
     ensures { result ≡ Spec.ruled_words answer }
 {
     answer.map_or_else(refused, ruled)
+}
+
+fn slowing(m: SlowingManoeuvre) -> [u64; 10]
+    ensures { result ≡ Spec.slowing m }
+{
+    let [
+        zero,
+        side,
+        magnitude,
+        course,
+        passing,
+        known,
+        secs,
+        nanos,
+        limiting,
+    ] = ruled(m.turn);
+    [
+        zero,
+        side,
+        magnitude,
+        course,
+        passing,
+        known,
+        secs,
+        nanos,
+        limiting,
+        pattern(m.speed.0),
+    ]
+}
+
+pub(crate) fn slowing_words(answer: Result<SlowingManoeuvre, Refusal>) -> [u64; 10]
+    ensures { result ≡ Spec.slowing_words answer }
+{
+    answer.map_or_else(refused, slowing)
 }
 
 pub(crate) fn chosen_words(choice: Option<Chosen>) -> [u64; 6]

@@ -17,10 +17,15 @@ ghost use Rattle.exports.specs.Picture as Picture;
 
 use assessment::assess::CollisionAssessment;
 use avoidance::search::{Chosen, Search, Sides};
+use clearance::traffic::Entry;
 use elementary::error::Refusal;
 use manoeuvre::AvoidanceManoeuvre;
+use manoeuvre::constraints::ManoeuvreConstraints;
 use manoeuvre::trials::TrialList;
+use motion::units::Distance;
 use ruled_search::RuledManoeuvre;
+use situation::party::Circumstances;
+use slowing_search::SlowingManoeuvre;
 
 #[unsafe(no_mangle)]
 pub extern "C" fn port_closest_point_of_approach(part: u32, words: &[u64]) -> u64
@@ -169,18 +174,30 @@ pub extern "C" fn port_avoid(part: u32, words: &[u64]) -> u64
     answers::word(&answers::avoidance_words(avoid_asked(words)), part)
 }
 
+// The constraints of a ruled search, with its other arguments checked.
+fn search_constraints(
+    words: &[u64],
+    around: Circumstances,
+    t: &[Entry],
+    desired: Distance,
+) -> Result<ManoeuvreConstraints, Refusal>
+    ensures { result ≡ Asked.search_constraints words.now around t.now desired }
+{
+    clearance::traffic::check_count(arguments::count(words))?;
+    situation::check::check_party(around.own)?;
+    clearance::traffic::check_contacts(t)?;
+    situation::check::check_optional(around.wind_from)?;
+    motion::argument::check_distance(desired)?;
+    arguments::constraints(words)
+}
+
 fn ruled_asked(words: &[u64]) -> Result<RuledManoeuvre, Refusal>
     ensures { result ≡ Asked.ruled_asked words.now }
 {
     let around = arguments::around(words);
     let t = arguments::entries(words);
     let desired = arguments::desired(words);
-    clearance::traffic::check_count(arguments::count(words))?;
-    situation::check::check_party(around.own)?;
-    clearance::traffic::check_contacts(&t)?;
-    situation::check::check_optional(around.wind_from)?;
-    motion::argument::check_distance(desired)?;
-    let constraints = arguments::constraints(words)?;
+    let constraints = search_constraints(words, around, &t, desired)?;
     ruled_search::ruled_search(around, &t, desired, constraints)
 }
 
@@ -189,6 +206,23 @@ pub extern "C" fn port_ruled_search(part: u32, words: &[u64]) -> u64
     ensures { result ≡ Answer.word (Answer.ruled_words (Asked.ruled_asked words.now)) part }
 {
     answers::word(&answers::ruled_words(ruled_asked(words)), part)
+}
+
+fn slowing_asked(words: &[u64]) -> Result<SlowingManoeuvre, Refusal>
+    ensures { result ≡ Asked.slowing_asked words.now }
+{
+    let around = arguments::around(words);
+    let t = arguments::entries(words);
+    let desired = arguments::desired(words);
+    let constraints = search_constraints(words, around, &t, desired)?;
+    slowing_search::slowing_search(around, &t, desired, constraints)
+}
+
+#[unsafe(no_mangle)]
+pub extern "C" fn port_slowing_search(part: u32, words: &[u64]) -> u64
+    ensures { result ≡ Answer.word (Answer.slowing_words (Asked.slowing_asked words.now)) part }
+{
+    answers::word(&answers::slowing_words(slowing_asked(words)), part)
 }
 
 // The search alone, without checks.

@@ -35,7 +35,8 @@ impl Replayed for Module {
             9 => exports::port_avoid(part, words),
             10 => exports::port_search(part, words),
             11 => exports::port_ruled_search(part, words),
-            _ => exports::port_collision_picture(part, words),
+            12 => exports::port_collision_picture(part, words),
+            _ => exports::port_slowing_search(part, words),
         }
     }
 }

@@ -36,7 +36,7 @@ use Rattle.relative_motion.specs.Sound.{HeldVessel}
 use Rattle.avoidance.proofs.Accepting.{good_both}
 use Rattle.avoidance.proofs.Prepared.{accepted}
 use Rattle.ruled_search.specs.Demand3.{OnAccepted}
-use Rattle.ruled_search.specs.Ruled.{situation_of, shared_sides, ruled_checks, chosen_answer, answered, ruled, ruled_if_accepted, ruled_answer}
+use Rattle.ruled_search.specs.Ruled.{situation_of, shared_sides, ruled_checks, manoeuvre_of, chosen_answer, answered, ruled, ruled_if_accepted, ruled_answer}
 use Rattle.ruled_search.specs.Held.{HeldEntry, HeldArguments}
 use Rattle.ruled_search.proofs.Accepted as Ruling
 use Rattle.ruled_search.proofs.Demanded.{demanded}
@@ -80,15 +80,15 @@ abbrev Expected : Result RuledManoeuvre Refusal → Type 0
 Expected (Ok m) = Unit
 Expected (Err why) = (why ≡ Why.NoTrialClears) ⊎ (why ≡ Why.NoSharedSide)
 
-chosen_expected : (own : Vessel) (c : ManoeuvreConstraints) (choice : Option Chosen) → Expected (chosen_answer own c choice)
+chosen_expected : (own : Vessel) (c : ManoeuvreConstraints) (choice : Option Chosen) → Expected (chosen_answer (manoeuvre_of own c) choice)
 chosen_expected own c None = inl refl
 chosen_expected own c (Some chosen) = tt
 
-answered_expected : (own : Vessel) (c : ManoeuvreConstraints) (sides : BySide Bool) (choice : Option Chosen) → Expected (answered own c sides choice)
+answered_expected : (own : Vessel) (c : ManoeuvreConstraints) (sides : BySide Bool) (choice : Option Chosen) → Expected (answered (manoeuvre_of own c) sides choice)
 unfolding answered
 answered_expected own c sides choice = go (sides.starboard || sides.port)
   where
-    go : (b : Bool) → Expected (cond b (chosen_answer own c choice) (Err Why.NoSharedSide))
+    go : (b : Bool) → Expected (cond b (chosen_answer (manoeuvre_of own c) choice) (Err Why.NoSharedSide))
     go true = chosen_expected own c choice
     go false = inr refl
 

@@ -27,7 +27,6 @@ use Rattle.motion.specs.Capacity.{max_contacts}
 use Rattle.ruled_search.specs.Ruled.{situation_of}
 use Rattle.sheet_record.specs.declared.Row.{Row}
 use Rattle.sheet.specs.Values.{entry_of, own_of, visibility_of, wind_from}
-use Rattle.lines.specs.Lines.{refused_line}
 use Rattle.lines.proofs.Short.{contact_short, alter_short, refused_short}
 use Rattle.report.specs.Contacts.{line_if_answered, line_of, contact_lines}
 use Rattle.manoeuvre.specs.declared.constraints.ManoeuvreConstraints.{ManoeuvreConstraints}

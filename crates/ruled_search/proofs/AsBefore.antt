@@ -24,7 +24,7 @@ use Rattle.manoeuvre.specs.declared.constraints.ManoeuvreConstraints.{ManoeuvreC
 use Rattle.avoidance.specs.Search.{search}
 use Rattle.clearance.specs.declared.traffic.Entry.{Entry}
 use Rattle.clearance.specs.Traffic.{target_of}
-use Rattle.ruled_search.specs.Ruled.{situation_of, permitted_sides, sides_of, in_both, either, join_sides, shared_sides, ruled_checks, answered}
+use Rattle.ruled_search.specs.Ruled.{situation_of, permitted_sides, sides_of, in_both, either, join_sides, shared_sides, ruled_checks, manoeuvre_of, answered}
 use Rattle.ruled_search.specs.Ruled.{ruled_if_accepted, ruled_answer, ruled}
 use Rattle.ruled_search.specs.Before as Before
 
@@ -61,4 +61,4 @@ module _ (own : Party) (visibility : Visibility) (wind : Option Direction) where
   unfolding ruled_answer Before.ruled_answer ruled Before.ruled
   as_before count entries desired c =
       ap (λ sides. ruled_if_accepted (verdict (ruled_checks own count entries wind desired c) (Ok tt))
-      (answered own.motion c sides (search own.motion (map target_of entries) desired sides c.least_alteration.0 c.most_alteration.0))) (same_shared entries)
+      (answered (manoeuvre_of own.motion c) sides (search own.motion (map target_of entries) desired sides c.least_alteration.0 c.most_alteration.0))) (same_shared entries)

@@ -1,5 +1,6 @@
 -- Laws, and what code owes.
 pub mod Accepted
+pub mod Answering
 pub mod AsBefore
 pub mod Contacts
 pub mod Demanded

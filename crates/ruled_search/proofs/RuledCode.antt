@@ -24,7 +24,7 @@ use Rattle.avoidance.proofs.Searched.{smallest_is}
 use Rattle.clearance.specs.declared.traffic.Entry.{Entry}
 use Rattle.clearance.specs.Traffic.{target_of}
 use Rattle.ruled_search.specs.declared.RuledManoeuvre.{RuledManoeuvre}
-use Rattle.ruled_search.specs.Ruled.{shared_sides, ruled_checks, chosen_answer, answered, ruled, ruled_computed, ruled_if_accepted, ruled_answer}
+use Rattle.ruled_search.specs.Ruled.{shared_sides, ruled_checks, manoeuvre_of, chosen_answer, answered, ruled, ruled_computed, ruled_if_accepted, ruled_answer}
 use Rattle.ruled_search.specs.Demand3.{Demand3}
 use Rattle.ruled_search.specs.Held.{HeldArguments}
 use Rattle.ruled_search.proofs.Accepted as Accepted
@@ -46,17 +46,17 @@ module _ (own : Party) (entries : List Entry) (visibility : Visibility) (wind : 
   abbrev found : BySide Bool → Option Chosen
   found s = smallest own.motion (floor_of desired) (map moving (map target_of entries)) s c.least_alteration.0 c.most_alteration.0
 
-  by : (b : Bool) → sides.starboard || sides.port ≡ b → cond b (chosen_answer own.motion c (found sides)) (Err Why.NoSharedSide) ≡ ruled_computed own entries visibility wind desired c
+  by : (b : Bool) → sides.starboard || sides.port ≡ b → cond b (chosen_answer (manoeuvre_of own.motion c) (found sides)) (Err Why.NoSharedSide) ≡ ruled_computed own entries visibility wind desired c
   unfolding ruled_computed answered
-  by b h = ap (λ b. cond b (chosen_answer own.motion c (found sides)) (Err Why.NoSharedSide)) (sym h) ∙ ap (λ s. answered own.motion c s (found s)) is
+  by b h = ap (λ b. cond b (chosen_answer (manoeuvre_of own.motion c) (found sides)) (Err Why.NoSharedSide)) (sym h) ∙ ap (λ s. answered (manoeuvre_of own.motion c) s (found s)) is
 
   pub no_side : sides.starboard || sides.port ≡ false → Err Why.NoSharedSide ≡ ruled_computed own entries visibility wind desired c
   no_side h = by false h
 
   pub searched : sides.starboard || sides.port ≡ true → (scene : List Moving) (choice : Option Chosen) (r : Result RuledManoeuvre Refusal) (least most : Float) → least ≡ c.least_alteration.0 → most ≡ c.most_alteration.0 → scene ≡ map moving (map target_of entries)
-      → choice ≡ smallest own.motion (floor_of desired) scene sides least most → r ≡ chosen_answer own.motion c choice → r ≡ ruled_computed own entries visibility wind desired c
+      → choice ≡ smallest own.motion (floor_of desired) scene sides least most → r ≡ chosen_answer (manoeuvre_of own.motion c) choice → r ≡ ruled_computed own entries visibility wind desired c
   searched h scene choice r least most el em es ec er =
-      er ∙ ap (chosen_answer own.motion c) (ec ∙ ap (λ l. smallest own.motion (floor_of desired) scene sides l most) el ∙ ap (λ m. smallest own.motion (floor_of desired) scene sides c.least_alteration.0 m) em ∙ ap (λ s. smallest own.motion (floor_of desired) s sides c.least_alteration.0 c.most_alteration.0) es)
+      er ∙ ap (chosen_answer (manoeuvre_of own.motion c)) (ec ∙ ap (λ l. smallest own.motion (floor_of desired) scene sides l most) el ∙ ap (λ m. smallest own.motion (floor_of desired) scene sides c.least_alteration.0 m) em ∙ ap (λ s. smallest own.motion (floor_of desired) s sides c.least_alteration.0 c.most_alteration.0) es)
       ∙ by true h
 
 -- ---- the answer
@@ -70,7 +70,7 @@ module _ (own : Party) (count : ℕ) (entries : List Entry) (visibility : Visibi
   unfolding ruled_computed ruled
   same e =
       let h = sym is ∙ e in
-      ap (answered own.motion c (shared_sides own visibility wind entries))
+      ap (answered (manoeuvre_of own.motion c) (shared_sides own visibility wind entries))
       (smallest_is own.motion (map target_of entries) desired (Accepted.own_fit own count entries wind desired c h k) (Accepted.targets_fit own count entries wind desired c h k) (shared_sides own visibility wind entries) c.least_alteration.0 c.most_alteration.0 (Accepted.limits own count entries wind desired c h k))
 
   pub accepted : w ≡ (Ok tt) → (r : Result RuledManoeuvre Refusal) → r ≡ ruled_computed own entries visibility wind desired c → (r ≡ ruled_answer own count entries visibility wind desired c) × Demand3 own entries visibility wind desired c count r

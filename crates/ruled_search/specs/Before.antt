@@ -1,6 +1,6 @@
 -- The ruled search over the rulings before request R-2 (`colregs/specs/Before.antt`): the
 -- definitions of `Ruled.antt` as they stand there, with those rulings.
-use Rattle.std.specs.Prelude.{◌≡◌, Bool, List, map, ℕ, Ok}
+use Rattle.std.specs.Prelude.{Bool, List, map, ℕ, Ok}
 use Rattle.laws.specs.Fold.{fold}
 use Rattle.motion.specs.declared.side.BySide.{BySide}
 use Rattle.motion.specs.declared.units.Distance.{Distance}
@@ -18,7 +18,7 @@ use Rattle.avoidance.specs.Search.{search}
 use Rattle.clearance.specs.declared.traffic.Entry.{Entry}
 use Rattle.clearance.specs.Traffic.{target_of}
 use Rattle.ruled_search.specs.declared.RuledManoeuvre.{RuledManoeuvre}
-use Rattle.ruled_search.specs.Ruled.{situation_of, permitted_sides, in_both, either, ruled_checks, answered, ruled_if_accepted}
+use Rattle.ruled_search.specs.Ruled.{situation_of, permitted_sides, in_both, either, ruled_checks, manoeuvre_of, answered, ruled_if_accepted}
 
 unfoldable pub sides_of : Party → Visibility → Option Direction → Entry → BySide Bool
 sides_of own visibility wind e = permitted_sides (ruling_answer (situation_of own visibility wind e) standard)
@@ -32,7 +32,7 @@ shared_sides own visibility wind entries = fold (join_sides own visibility wind)
 unfoldable pub ruled : Party → List Entry → Visibility → Option Direction → Distance → ManoeuvreConstraints → Result RuledManoeuvre Refusal
 ruled own entries visibility wind desired c =
     let sides = shared_sides own visibility wind entries in
-    answered own.motion c sides (search own.motion (map target_of entries) desired sides c.least_alteration.0 c.most_alteration.0)
+    answered (manoeuvre_of own.motion c) sides (search own.motion (map target_of entries) desired sides c.least_alteration.0 c.most_alteration.0)
 
 unfoldable pub ruled_answer : Party → ℕ → List Entry → Visibility → Option Direction → Distance → ManoeuvreConstraints → Result RuledManoeuvre Refusal
 ruled_answer own count entries visibility wind desired c =

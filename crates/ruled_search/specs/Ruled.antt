@@ -60,7 +60,8 @@ ruled_checks own count entries wind desired c =
     ++ (party_checks own ++ (contacts_checks entries ++ (optional_checks wind ++ (distance_checks desired ++ constraint_checks c))))
 
 -- ---- the answer
--- on accepted arguments: 13 where no side is shared, 5 where no trial on a shared side clears
+-- on accepted arguments: 13 where no side is shared, 5 where nothing on a shared side clears, and
+-- else what is said of the choice
 abbrev pub manoeuvre_of : Vessel → ManoeuvreConstraints → Chosen → RuledManoeuvre
 manoeuvre_of own c chosen = record {
   side = chosen.side;
@@ -71,17 +72,17 @@ manoeuvre_of own c chosen = record {
   limiting = chosen.clearance.limiting;
 }
 
-abbrev pub chosen_answer : Vessel → ManoeuvreConstraints → Option Chosen → Result RuledManoeuvre Refusal
-chosen_answer own c None = Err Why.NoTrialClears
-chosen_answer own c (Some chosen) = Ok (manoeuvre_of own c chosen)
+abbrev pub chosen_answer : {A M : Type 0} → (A → M) → Option A → Result M Refusal
+chosen_answer of None = Err Why.NoTrialClears
+chosen_answer of (Some chosen) = Ok (of chosen)
 
-unfoldable pub answered : Vessel → ManoeuvreConstraints → BySide Bool → Option Chosen → Result RuledManoeuvre Refusal
-answered own c sides choice = cond (sides.starboard || sides.port) (chosen_answer own c choice) (Err Why.NoSharedSide)
+unfoldable pub answered : {A M : Type 0} → (A → M) → BySide Bool → Option A → Result M Refusal
+answered of sides choice = cond (sides.starboard || sides.port) (chosen_answer of choice) (Err Why.NoSharedSide)
 
 unfoldable pub ruled : Party → List Entry → Visibility → Option Direction → Distance → ManoeuvreConstraints → Result RuledManoeuvre Refusal
 ruled own entries visibility wind desired c =
     let sides = shared_sides own visibility wind entries in
-    answered own.motion c sides (search own.motion (map target_of entries) desired sides c.least_alteration.0 c.most_alteration.0)
+    answered (manoeuvre_of own.motion c) sides (search own.motion (map target_of entries) desired sides c.least_alteration.0 c.most_alteration.0)
 
 -- ---- the answer
 abbrev pub ruled_if_accepted : Result (Unit {0}) Refusal → Result RuledManoeuvre Refusal → Result RuledManoeuvre Refusal
@@ -97,5 +98,5 @@ ruled_answer own count entries visibility wind desired c =
 unfoldable pub ruled_computed : Party → List Entry → Visibility → Option Direction → Distance → ManoeuvreConstraints → Result RuledManoeuvre Refusal
 ruled_computed own entries visibility wind desired c =
     let sides = shared_sides own visibility wind entries in
-    answered own.motion c sides
+    answered (manoeuvre_of own.motion c) sides
     (smallest own.motion (floor_of desired) (map moving (map target_of entries)) sides c.least_alteration.0 c.most_alteration.0)

@@ -38,7 +38,7 @@ pub struct RuledManoeuvre {
 
 // The count of contacts, own craft, the contacts entry by entry, the wind, the desired distance,
 // the constraints.
-fn check_arguments(
+pub fn check_arguments(
     around: Circumstances,
     t: &[Entry],
     desired: Distance,
@@ -57,7 +57,7 @@ fn check_arguments(
 
 // What is said of a trial that was chosen. Apart from `avoid`'s of this name: `ruled` answers
 // `RuledManoeuvre`, which says why it is a second type, and `avoid` the Rust's.
-fn manoeuvre_of(own: Vessel, c: ManoeuvreConstraints, chosen: Chosen) -> RuledManoeuvre
+pub fn manoeuvre_of(own: Vessel, c: ManoeuvreConstraints, chosen: Chosen) -> RuledManoeuvre
     ensures { result ≡ Spec.manoeuvre_of own c chosen }
 {
     let altered = avoidance::search::altered(
@@ -79,7 +79,7 @@ fn chosen_answer(
     c: ManoeuvreConstraints,
     choice: Option<Chosen>,
 ) -> Result<RuledManoeuvre, Refusal>
-    ensures { result ≡ Spec.chosen_answer own c choice }
+    ensures { result ≡ Spec.chosen_answer (Spec.manoeuvre_of own c) choice }
 {
     choice
         .map(|chosen| manoeuvre_of(own, c, chosen))

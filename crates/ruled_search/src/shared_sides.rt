@@ -42,7 +42,7 @@ fn in_both(a: Sides, b: Sides) -> Sides
 }
 
 // The sides that the rulings on all contacts permit; both without contacts.
-pub(crate) fn shared_sides(around: Circumstances, t: &[Entry]) -> Sides
+pub fn shared_sides(around: Circumstances, t: &[Entry]) -> Sides
     ensures { result ≡ Spec.shared_sides around.own around.visibility around.wind_from t.now }
 {
     let both = Sides {

@@ -7,31 +7,31 @@ use super::*;
 mod timed;
 
 // The codes beside own category, which is the low three bits.
-const RESTRICTED: u32 = 1 << 3;
-const OWN_HEADING: u32 = 1 << 4;
+pub(super) const RESTRICTED: u32 = 1 << 3;
+pub(super) const OWN_HEADING: u32 = 1 << 4;
 const WIND: u32 = 1 << 5;
-const RATE: u32 = 1 << 6;
+pub(super) const RATE: u32 = 1 << 6;
 const CODES: u64 = 1 << 7;
 
 /// In a contact's code, the category's bits and the one that says that its heading is known.
-const CATEGORY: u32 = 7;
-const HEADING: u32 = 8;
+pub(super) const CATEGORY: u32 = 7;
+pub(super) const HEADING: u32 = 8;
 
 /// Floats before the contacts': own course, speed and heading, the wind, desired, least, most and the rate; and those of a contact:
 /// bearing, range, course, speed, heading, code.
-const BASE: usize = 8;
-const EACH: usize = 6;
+pub(super) const BASE: usize = 8;
+pub(super) const EACH: usize = 6;
 
 /// The codes, the count of contacts, and the floats as the C interface has them; one that is not there counts as 0.
 #[derive(Clone)]
 pub struct RuledCase {
-    codes: u32,
-    count: usize,
-    floats: Vec<f64>,
+    pub(super) codes: u32,
+    pub(super) count: usize,
+    pub(super) floats: Vec<f64>,
 }
 
 impl RuledCase {
-    fn at(&self, i: usize) -> f64 {
+    pub(super) fn at(&self, i: usize) -> f64 {
         self.floats.get(i).copied().unwrap_or(0.0)
     }
 
@@ -44,7 +44,7 @@ impl RuledCase {
     }
 
     /// A contact's bearing, range, course and speed; its category's code and its heading.
-    fn entry(&self, place: usize) -> ([f64; 4], (u32, Option<f64>)) {
+    pub(super) fn entry(&self, place: usize) -> ([f64; 4], (u32, Option<f64>)) {
         let [bearing, range, course, speed, heading, code] = std::array::from_fn(|i| self.at(BASE + EACH * place + i));
         let code = code as u32;
         ([bearing, range, course, speed], (code & CATEGORY, (code & HEADING != 0).then_some(heading)))
@@ -68,8 +68,13 @@ impl RuledCase {
         first_bad(arguments)
     }
 
+    /// The number of the first bad argument, constraints last.
+    pub(super) fn refusal(&self) -> Option<u64> {
+        self.bad().or(constraints(SIDES[0], self.limits()).is_err().then_some(CONSTRAINTS))
+    }
+
     /// A situation with accepted arguments, but for the rate.
-    fn random(style: Style, random: &mut Random) -> RuledCase {
+    pub(super) fn random(style: Style, random: &mut Random) -> RuledCase {
         let (count, own) = (how_many(random), own(random));
         let (least, most) = limits(random);
         let mut codes = random.below(CODES) as u32 & !RATE;
@@ -104,7 +109,7 @@ impl RuledCase {
     }
 
     /// Puts bad arguments where none is given: they must not count.
-    fn fill_with_bad(&mut self, random: &mut Random) {
+    pub(super) fn fill_with_bad(&mut self, random: &mut Random) {
         let absent = [(OWN_HEADING, 2), (WIND, 3), (RATE, 7)].into_iter().filter(|(code, _)| self.codes & code == 0).map(|(_, i)| i);
         let unknown = (0..self.count).map(|place| BASE + EACH * place).filter(|i| (self.at(i + 5) as u32) & HEADING == 0).map(|i| i + 4);
         for i in absent.chain(unknown).collect::<Vec<_>>() {
@@ -115,7 +120,7 @@ impl RuledCase {
     }
 
     /// Makes something bad: limits, the count, one or two arguments anywhere; or leaves floats away.
-    fn spoil(&mut self, random: &mut Random) {
+    pub(super) fn spoil(&mut self, random: &mut Random) {
         match random.below(8) {
             0 => (self.floats[5], self.floats[6]) = bad_limits(random),
             1 => {
@@ -156,7 +161,7 @@ impl RuledCase {
     }
 
     /// The arguments of the reference, where none is bad.
-    fn arguments(&self) -> (Limits, Rulings, List) {
+    pub(super) fn arguments(&self) -> (Limits, Rulings, List) {
         let (contacts, targets): (Vec<_>, Vec<_>) = (0..self.count).map(|place| self.entry(place)).unzip();
         let own = (self.codes & CATEGORY, self.given(OWN_HEADING, 2));
         let rulings = Rulings { own, targets, restricted: self.codes & RESTRICTED != 0, wind: self.given(WIND, 3) };
@@ -206,9 +211,7 @@ impl Case for RuledCase {
     }
 
     fn reference(&self) -> Ruled {
-        let limits = self.limits();
-        let number = self.bad().or(constraints(SIDES[0], limits).is_err().then_some(CONSTRAINTS));
-        match number {
+        match self.refusal() {
             Some(number) => Ruled { words: refused(number), shared: (false, false), tie: false },
             None => {
                 let (limits, rulings, list) = self.arguments();

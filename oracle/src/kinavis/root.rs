@@ -19,6 +19,7 @@ pub mod local;
 pub mod outside;
 #[allow(dead_code)]
 pub mod sheet;
+pub mod slowing_calls;
 pub mod to_windward;
 pub mod traffic_calls;
 #[allow(dead_code)]

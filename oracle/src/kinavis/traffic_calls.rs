@@ -21,8 +21,8 @@ pub type AvoidWords = [u64; 9];
 pub type SearchWords = [u64; 5];
 
 /// The numbers of a search that finds nothing, and of rulings that share no side.
-const NOTHING_CLEARS: u64 = 5;
-const NO_SHARED_SIDE: u64 = 13;
+pub const NOTHING_CLEARS: u64 = 5;
+pub const NO_SHARED_SIDE: u64 = 13;
 
 /// An encounter, the policy's distance, and the seconds and nanoseconds of its time.
 pub type AssessArguments = [u64; 9];
@@ -78,7 +78,7 @@ pub fn picture(limit: f64, secs: u64, own: [u64; 2], contacts: &[Option<[u64; 4]
     Some(words)
 }
 
-fn miles(d: Distance) -> u64 {
+pub fn miles(d: Distance) -> u64 {
     d.nautical_miles().to_bits()
 }
 
@@ -105,7 +105,7 @@ pub fn constraints(sides: PermittedSides, limits: Limits) -> Result<ManoeuvreCon
 
 /// The words of a manoeuvre: side, alteration, course, passing distance, whether there is a turn time, its seconds and nanoseconds,
 /// and the limiting contact's place plus 1.
-fn manoeuvre_words(side: u64, alteration: f64, m: &AvoidanceManoeuvre) -> AvoidWords {
+pub fn manoeuvre_words(side: u64, alteration: f64, m: &AvoidanceManoeuvre) -> AvoidWords {
     let (has_time, secs, nanos) = m.turn_time().map_or((0, 0, 0), |time| (1, time.as_secs(), u64::from(time.subsec_nanos())));
     let (course, passing) = (m.course().degrees().to_bits(), miles(m.least_passing()));
     [0, side, alteration.to_bits(), course, passing, has_time, secs, nanos, limiting(m)]
@@ -159,7 +159,7 @@ pub fn list(own_course: f64, own_speed: f64, desired: f64, contacts: impl Iterat
 }
 
 impl List {
-    fn search(&self, sides: PermittedSides, limits: Limits) -> Option<AvoidanceManoeuvre> {
+    pub fn search(&self, sides: PermittedSides, limits: Limits) -> Option<AvoidanceManoeuvre> {
         let constraints = constraints(sides, limits).expect("accepted constraints");
         found(searched(self.own, &self.contacts, self.desired, &constraints))
     }
@@ -195,11 +195,11 @@ fn of((code, heading): (u32, Option<f64>), motion: Vessel) -> Party {
     party(motion, code % CATEGORIES.len() as u32, heading.map(f64::to_bits))
 }
 
-/// Whether every ruling permits starboard, and port.
-pub fn shared_sides(rulings: &Rulings, list: &List) -> (bool, bool) {
+/// Whether every ruling permits starboard, and port; and slowing down.
+pub fn permitted(rulings: &Rulings, list: &List) -> ((bool, bool), bool) {
     let own = of(rulings.own, list.own);
     let visibility = if rulings.restricted { Visibility::Restricted } else { Visibility::InSight };
-    let (mut starboard, mut port) = (true, true);
+    let (mut starboard, mut port, mut slow_down) = (true, true, true);
     for (&(contact, motion), &target) in list.contacts.iter().zip(&rulings.targets) {
         let mut situation = Situation::new(own, of(target, motion), contact, visibility);
         if let Some(wind) = rulings.wind {
@@ -211,8 +211,9 @@ pub fn shared_sides(rulings: &Rulings, list: &List) -> (bool, bool) {
         };
         starboard &= ruling.manoeuvre().starboard;
         port &= ruling.manoeuvre().port;
+        slow_down &= ruling.manoeuvre().slow_down;
     }
-    (starboard, port)
+    ((starboard, port), slow_down)
 }
 
 /// What the ruled search answers, which sides were shared, and whether both had a trial of the answer's magnitude.
@@ -225,7 +226,7 @@ pub struct Ruled {
 /// The ruled search: `search` on each shared side alone, and the smaller of the two alterations, starboard on equality. The words are
 /// `avoid`'s, but the side is that of the list that held the trial, and the alteration is its magnitude.
 pub fn ruled(limits: Limits, rulings: &Rulings, list: &List) -> Ruled {
-    let shared = shared_sides(rulings, list);
+    let (shared, _) = permitted(rulings, list);
     let on = |side: PermittedSides, permitted: bool| permitted.then(|| list.search(side, limits)).flatten();
     let sides = [on(PermittedSides::Starboard, shared.0), on(PermittedSides::Port, shared.1)];
     let magnitude = |m: &AvoidanceManoeuvre| m.alteration().degrees().abs();
