@@ -28,7 +28,6 @@ GUESSES = {
     ("crates/inverse_trigonometry/src/guess.rt", None): "a guess at a step, which the search checks",
     ("crates/roots/src/lib.rt", "guess"): "a guess at a root, whose square is compared",
     ("crates/clearance/src/lib.rt", "is_suspect"): "which contact is worked out first",
-    ("crates/clearance/src/lib.rt", "likely_blocker"): "which contact is asked first",
 }
 
 # Faults that leave every answer as it is, or that are found elsewhere: file, line, faulty line.

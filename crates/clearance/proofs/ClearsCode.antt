@@ -1,19 +1,22 @@
 -- The loop over the contacts: each turn takes one more of those that are left, and one that blocks decides, wherever it stands.
-use Rattle.std.specs.Prelude.{None, Some, MatchBool, HoldsAt}
-use Rattle.std.specs.Option.{unwrap_or}
+use Rattle.std.specs.Prelude.{None, Some, is_some, slice_index_or}
+use Rattle.std.specs.Option.{IfSome, unwrap_or}
 use mathlib.Core.Path.{◌≡◌, refl, sym, ap, ◌∙◌}
-use mathlib.Core.Bool.{Bool, true, false, true≢false}
+use mathlib.Core.Bool.{true, false, true≢false}
 use mathlib.Core.List.{List, [], ◌∷◌, map}
 use Prim.Native.Nat.{ℕ, zero, suc, ◌+◌, ◌<◌}
 use native.Mathlib.Nat.{le_of_lt, lt_of_lt_of_le}
 use native.Mathlib.Numerals.{add-one}
 use native.Mathlib.Omega.{arith}
 use lib.ListN.{length, get_or, drop}
+use lib.Ieee.{Float}
 use lib.Seq.{drop-cons, drop-length}
 use Rattle.std.specs.declared.option.Option.{Option}
 use Rattle.motion.specs.declared.units.Distance.{Distance}
 use Rattle.clearance.specs.declared.Clearance.{Clearance}
-use Rattle.clearance.specs.Clearing.{nearer, nobody, tally, clearing}
+use Rattle.motion.specs.declared.vessel.Components.{Components}
+use Rattle.clearance.specs.declared.contact.Moving.{Moving}
+use Rattle.clearance.specs.Clearing.{nearer, nobody, tally, clearing, contact_clears_computed, Blocks, clears_computed}
 
 pub no : {P : Type 0} → false ≡ true → P
 no e = absurd (true≢false (sym e))
@@ -74,12 +77,20 @@ module _ {A : Type 0} (f : A → Option Distance) (l : List A) where
   unfolding clearing
   whole = refl
 
--- one of them blocks, where `any` says so
-pub found_blocks : {A : Type 0} (N : Type 0) (f : A → Option Distance) (l : List A) (r : Bool) → MatchBool r ((i : ℕ) × (i < length l) × HoldsAt (λ x. f x ≡ None) l i) N → r ≡ true
-    → clearing (map f l) ≡ None
-found_blocks N f [] true w e = absurd (not_below_zero w.0 w.1)
-  where
-    not_below_zero : (i : ℕ) → i < 0 → ⊥
-    not_below_zero i h = omega arith
-found_blocks N f (x ∷ l) true w e = sym (whole f (x ∷ l)) ∙ one_blocks f (x ∷ l) w.0 x _ w.1 refl (w.2 x)
-found_blocks N f l false w e = no e
+-- one that blocks at a place decides
+module _ (own : Components) (floor : Float) where
+  pub asked_blocks : (ms : List Moving) (place : ℕ) (d : Moving) → place < length ms → contact_clears_computed own floor (slice_index_or ms place d) ≡ None
+      → clears_computed own floor ms ≡ None
+  unfolding clears_computed
+  asked_blocks ms place d h e = let at = contact_clears_computed own floor in sym (whole at ms) ∙ one_blocks at ms place d _ h refl e
+
+  blocks_there : (ms : List Moving) (place : ℕ) → Blocks own floor ms place → clears_computed own floor ms ≡ None
+  blocks_there [] place b = absurd (none place b.0)
+    where
+      none : (place : ℕ) → place < 0 → ⊥
+      none place h = omega arith
+  blocks_there (m ∷ ms) place b = asked_blocks (m ∷ ms) place m b.0 (b.1 m)
+
+  pub some_blocks : (ms : List Moving) (r : Option ℕ) → IfSome r (Blocks own floor ms) → is_some r ≡ true → clears_computed own floor ms ≡ None
+  some_blocks ms None b e = no e
+  some_blocks ms (Some place) b e = blocks_there ms place b

@@ -2,7 +2,7 @@
 -- clears if no contact, by `closest_point_of_approach` on the altered course, closes under desired
 -- minus 1e-9. A contact's passing distance is its CPA on that course if closing there, else its
 -- present range. The limiting contact is the first with the least passing distance').
-use Rattle.std.specs.Prelude.{cond, List, [], ◌∷◌, map, ℕ, suc, Float, None, Some}
+use Rattle.std.specs.Prelude.{◌≡◌, cond, List, [], ◌∷◌, map, ℕ, suc, ◌<◌, length, slice_index_or, Float, None, Some}
 use Rattle.std.specs.Option.{unwrap_or}
 use Rattle.std.specs.Float.{binary64}
 use Rattle.std.specs.Float.Ieee.{lt, of_bits}
@@ -62,6 +62,10 @@ unfoldable pub clears : Vessel → Float → List Target → Distance → Option
 clears own alteration targets desired = clearing (map (contact_clears (altered own alteration) (floor_of desired)) targets)
 
 -- ---- what is computed: by `contact_clears_computed` of each contact
+
+-- the contact at a place blocks
+abbrev pub Blocks : Components → Float → List Moving → ℕ → Type 0
+Blocks own floor ms place = (place < length ms) × ((m : Moving) → contact_clears_computed own floor (slice_index_or ms place m) ≡ None)
 
 unfoldable pub clears_computed : Components → Float → List Moving → Option Clearance
 clears_computed own floor ms = clearing (map (contact_clears_computed own floor) ms)

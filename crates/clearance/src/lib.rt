@@ -14,6 +14,7 @@ pub mod contact;
 pub mod traffic;
 
 ghost use Rattle.std.specs.Prelude.{◌≡◌, true, None};
+ghost use Rattle.std.specs.Option.{IfSome};
 ghost use Rattle.clearance.specs.Clearing as Spec;
 
 use crate::contact::{Moving, contact_clears};
@@ -67,27 +68,17 @@ fn is_blocker(own: Components, m: Moving, floor: f64) -> bool
     is_suspect(own, m, floor * floor * DOUBT) && contact_clears(own, m, floor).is_none()
 }
 
-// Whether one of the suspects blocks the course.
-fn suspect_blocks(own: Components, scene: &[Moving], floor: f64) -> bool
-    ensures { result ≡ true → Spec.clears_computed own floor scene.now ≡ None }
+// A suspect that blocks the course, by its place. Which one, and whether there is one where a course
+// is blocked, is left free; the contact at the place that is answered blocks.
+pub fn blocker(own: Components, scene: &[Moving], floor: f64) -> Option<usize>
+    ensures { IfSome result (Spec.Blocks own floor scene.now) }
 {
-    scene.iter().any(|m| is_blocker(own, *m, floor))
-}
-
-// The place of a contact that blocks the course, where a suspect does. Nothing is promised of it:
-// one that blocks a course is likely to block the next.
-pub fn likely_blocker(own: Components, scene: &[Moving], floor: f64) -> usize {
-    scene
-        .iter()
-        .position(|m| is_blocker(own, *m, floor))
-        .unwrap_or(0)
-}
-
-// Whether the contact at a place is a suspect that blocks the course.
-pub fn blocks_at(own: Components, scene: &[Moving], floor: f64, place: usize) -> bool
-    ensures { result ≡ true → Spec.clears_computed own floor scene.now ≡ None }
-{
-    place < scene.len() && is_blocker(own, scene[place], floor)
+    for (at, m) in scene.iter().enumerate() {
+        if is_blocker(own, *m, floor) {
+            return Some(at);
+        }
+    }
+    None
 }
 
 // All contacts, each worked out.
@@ -108,8 +99,25 @@ fn tallied(own: Components, scene: &[Moving], floor: f64) -> Option<Clearance>
 pub fn clears(own: Components, scene: &[Moving], floor: f64) -> Option<Clearance>
     ensures { result ≡ Spec.clears_computed own floor scene.now }
 {
-    if suspect_blocks(own, scene, floor) {
+    if blocker(own, scene, floor).is_some() {
         return None;
     }
     tallied(own, scene, floor)
+}
+
+// The same, of which the contact at a place is asked first, if there is one. The answer does not
+// hang on it.
+pub fn clears_from(
+    own: Components,
+    scene: &[Moving],
+    floor: f64,
+    first: Option<usize>,
+) -> Option<Clearance>
+    ensures { result ≡ Spec.clears_computed own floor scene.now }
+{
+    let place = first.unwrap_or(0);
+    if place < scene.len() && is_blocker(own, scene[place], floor) {
+        return None;
+    }
+    clears(own, scene, floor)
 }

@@ -41,7 +41,8 @@ range_in (Ok (Track.Opening range)) other = range
 range_in (Ok (Track.Stationary range)) other = range
 range_in (Err why) other = other
 
-by_cases : (w : Result (Unit {0}) Refusal) (a b : Bool) (range : Distance) (cpa : Cpa) → range_in (cpa_if_accepted w (cond a (Track.Stationary range) (cond b (Track.Opening range) (Track.Closing cpa)))) range ≡ range
+by_cases : (w : Result (Unit {0}) Refusal) (a b : Bool) (range : Distance) (cpa : Cpa) → range_in (cpa_if_accepted w (cond a (Track.Stationary range) (cond b (Track.Opening range) (Track.Closing cpa)))) range
+    ≡ range
 by_cases (Err why) a b range cpa = refl
 by_cases (Ok tt) true b range cpa = refl
 by_cases (Ok tt) false true range cpa = refl
@@ -49,7 +50,10 @@ by_cases (Ok tt) false false range cpa = refl
 
 at_range : (v : Vessel) (e : Entry) → range_in (approach_to v e) e.contact.range ≡ e.contact.range
 unfolding cpa_answer approach approach_from
-at_range v e = by_cases (verdict (encounter_checks v e.contact e.target.motion) (Ok tt)) (lt (relative_speed (relative_velocity v e.target.motion)) stationary_knots) (le (time_of (offset e.contact) (relative_velocity v e.target.motion)) Check.zero) e.contact.range _
+at_range v e =
+    by_cases (verdict (encounter_checks v e.contact e.target.motion) (Ok tt))
+    (lt (relative_speed (relative_velocity v e.target.motion)) stationary_knots)
+    (le (time_of (offset e.contact) (relative_velocity v e.target.motion)) Check.zero) e.contact.range _
 
 module _ (desired : Distance) (v : Vessel) (e : Entry) where
   closes_blocks : ClosesUnder desired v e → contact_clears v (floor_of desired) (target_of e) ≡ None

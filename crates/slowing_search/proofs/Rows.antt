@@ -131,7 +131,18 @@ small_turns =
     ∷ []
 
 pub small_turns_holds : every small_turns ≡ true
-unfolding abaft abs add all_permit_slowing altered angle_steps answered approach approach_from arctangent_steps aspect_of at_pair atan2 both both_finite choice circular.from_units circular.in_domain circular.scaled clearing clears clock closest closing_rate constraint_checks contact_clears contacts_checks cos cosine_divisors cosine_step cosine_units cpa_answer decided degrees_per_radian difference direction_of distance div down_from encounter_checks encounter_of entry_checks eq even fastest first floor_of fold folds.turned forward_of_beam from_hours geometry_of greatest greatest_to half_fold heading horner hours_of hypot hypots.in_domain in_both in_range is_accepted is_closing is_direction is_distance is_effectively_zero is_head_on is_speed is_width larger last le lt mul nanos_in nearer neg negative not_above octant of_bits of_int offset own_comes_up own_overtakes pair_clears party party_checks permitted placed quarters range_rate reciprocal relative_of relative_speed relative_velocity rem removed resolved rest round rule17_port rule18 rule19_port rule19_starboard ruled_answer ruled_checks ruling.ruled ruling_answer ruling_for ruling_of scaled_by search shared_sides side_of sides_of sin sine_divisors sine_step sine_units situation situation_checks size slowing slowing_answer speed_of sqrt square sub small_turns tally target_comes_up target_of target_overtakes time_of time_to_go to_bits to_degrees to_radians to_unsigned to_usize trial trial_clears trial_speeds trials trials_from trying.choice trying.first trying.search trying.side_choice turned_minus turned_units unit units_of up_to velocity verdict whole_fold
+unfolding abaft abs add all_permit_slowing altered angle_steps answered approach approach_from arctangent_steps aspect_of at_pair atan2 both both_finite
+    choice circular.from_units circular.in_domain circular.scaled clearing clears clock closest closing_rate constraint_checks contact_clears
+    contacts_checks cos cosine_divisors cosine_step cosine_units cpa_answer decided degrees_per_radian difference direction_of distance div down_from
+    encounter_checks encounter_of entry_checks eq even fastest first floor_of fold folds.turned forward_of_beam from_hours geometry_of greatest
+    greatest_to half_fold heading horner hours_of hypot hypots.in_domain in_both in_range is_accepted is_closing is_direction is_distance
+    is_effectively_zero is_head_on is_speed is_width larger last le lt mul nanos_in nearer neg negative not_above octant of_bits of_int offset
+    own_comes_up own_overtakes pair_clears party party_checks permitted placed quarters range_rate reciprocal relative_of relative_speed
+    relative_velocity rem removed resolved rest round rule17_port rule18 rule19_port rule19_starboard ruled_answer ruled_checks ruling.ruled
+    ruling_answer ruling_for ruling_of scaled_by search shared_sides side_of sides_of sin sine_divisors sine_step sine_units situation
+    situation_checks size slowing slowing_answer speed_of sqrt square sub small_turns tally target_comes_up target_of target_overtakes time_of
+    time_to_go to_bits to_degrees to_radians to_unsigned to_usize trial trial_clears trial_speeds trials trials_from trying.choice trying.first
+    trying.search trying.side_choice turned_minus turned_units unit units_of up_to velocity verdict whole_fold
 small_turns_holds = refl
 
 -- ---- farther
@@ -145,7 +156,18 @@ turns =
     ∷ []
 
 pub turns_holds : every turns ≡ true
-unfolding abaft abs add all_permit_slowing altered angle_steps answered approach approach_from arctangent_steps aspect_of at_pair atan2 both both_finite choice circular.from_units circular.in_domain circular.scaled clearing clears clock closest closing_rate constraint_checks contact_clears contacts_checks cos cosine_divisors cosine_step cosine_units cpa_answer decided degrees_per_radian difference direction_of distance div down_from encounter_checks encounter_of entry_checks eq even fastest first floor_of fold folds.turned forward_of_beam from_hours geometry_of greatest greatest_to half_fold heading horner hours_of hypot hypots.in_domain in_both in_range is_accepted is_closing is_direction is_distance is_effectively_zero is_head_on is_speed is_width larger last le lt mul nanos_in nearer neg negative not_above octant of_bits of_int offset own_comes_up own_overtakes pair_clears party party_checks permitted placed quarters range_rate reciprocal relative_of relative_speed relative_velocity rem removed resolved rest round rule17_port rule18 rule19_port rule19_starboard ruled_answer ruled_checks ruling.ruled ruling_answer ruling_for ruling_of scaled_by search shared_sides side_of sides_of sin sine_divisors sine_step sine_units situation situation_checks size slowing slowing_answer speed_of sqrt square sub turns tally target_comes_up target_of target_overtakes time_of time_to_go to_bits to_degrees to_radians to_unsigned to_usize trial trial_clears trial_speeds trials trials_from trying.choice trying.first trying.search trying.side_choice turned_minus turned_units unit units_of up_to velocity verdict whole_fold
+unfolding abaft abs add all_permit_slowing altered angle_steps answered approach approach_from arctangent_steps aspect_of at_pair atan2 both both_finite
+    choice circular.from_units circular.in_domain circular.scaled clearing clears clock closest closing_rate constraint_checks contact_clears
+    contacts_checks cos cosine_divisors cosine_step cosine_units cpa_answer decided degrees_per_radian difference direction_of distance div down_from
+    encounter_checks encounter_of entry_checks eq even fastest first floor_of fold folds.turned forward_of_beam from_hours geometry_of greatest
+    greatest_to half_fold heading horner hours_of hypot hypots.in_domain in_both in_range is_accepted is_closing is_direction is_distance
+    is_effectively_zero is_head_on is_speed is_width larger last le lt mul nanos_in nearer neg negative not_above octant of_bits of_int offset
+    own_comes_up own_overtakes pair_clears party party_checks permitted placed quarters range_rate reciprocal relative_of relative_speed
+    relative_velocity rem removed resolved rest round rule17_port rule18 rule19_port rule19_starboard ruled_answer ruled_checks ruling.ruled
+    ruling_answer ruling_for ruling_of scaled_by search shared_sides side_of sides_of sin sine_divisors sine_step sine_units situation
+    situation_checks size slowing slowing_answer speed_of sqrt square sub turns tally target_comes_up target_of target_overtakes time_of time_to_go
+    to_bits to_degrees to_radians to_unsigned to_usize trial trial_clears trial_speeds trials trials_from trying.choice trying.first trying.search
+    trying.side_choice turned_minus turned_units unit units_of up_to velocity verdict whole_fold
 turns_holds = refl
 
 unfoldable pub only_pair : List Row
@@ -156,5 +178,16 @@ only_pair =
     ∷ []
 
 pub only_pair_holds : every only_pair ≡ true
-unfolding abaft abs add all_permit_slowing altered angle_steps answered approach approach_from arctangent_steps aspect_of at_pair atan2 both both_finite choice circular.from_units circular.in_domain circular.scaled clearing clears clock closest closing_rate constraint_checks contact_clears contacts_checks cos cosine_divisors cosine_step cosine_units cpa_answer decided degrees_per_radian difference direction_of distance div down_from encounter_checks encounter_of entry_checks eq even fastest first floor_of fold folds.turned forward_of_beam from_hours geometry_of greatest greatest_to half_fold heading horner hours_of hypot hypots.in_domain in_both in_range is_accepted is_closing is_direction is_distance is_effectively_zero is_head_on is_speed is_width larger last le lt mul nanos_in nearer neg negative not_above octant of_bits of_int offset own_comes_up own_overtakes pair_clears party party_checks permitted placed quarters range_rate reciprocal relative_of relative_speed relative_velocity rem removed resolved rest round rule17_port rule18 rule19_port rule19_starboard ruled_answer ruled_checks ruling.ruled ruling_answer ruling_for ruling_of scaled_by search shared_sides side_of sides_of sin sine_divisors sine_step sine_units situation situation_checks size slowing slowing_answer speed_of sqrt square sub only_pair tally target_comes_up target_of target_overtakes time_of time_to_go to_bits to_degrees to_radians to_unsigned to_usize trial trial_clears trial_speeds trials trials_from trying.choice trying.first trying.search trying.side_choice turned_minus turned_units unit units_of up_to velocity verdict whole_fold
+unfolding abaft abs add all_permit_slowing altered angle_steps answered approach approach_from arctangent_steps aspect_of at_pair atan2 both both_finite
+    choice circular.from_units circular.in_domain circular.scaled clearing clears clock closest closing_rate constraint_checks contact_clears
+    contacts_checks cos cosine_divisors cosine_step cosine_units cpa_answer decided degrees_per_radian difference direction_of distance div down_from
+    encounter_checks encounter_of entry_checks eq even fastest first floor_of fold folds.turned forward_of_beam from_hours geometry_of greatest
+    greatest_to half_fold heading horner hours_of hypot hypots.in_domain in_both in_range is_accepted is_closing is_direction is_distance
+    is_effectively_zero is_head_on is_speed is_width larger last le lt mul nanos_in nearer neg negative not_above octant of_bits of_int offset
+    own_comes_up own_overtakes pair_clears party party_checks permitted placed quarters range_rate reciprocal relative_of relative_speed
+    relative_velocity rem removed resolved rest round rule17_port rule18 rule19_port rule19_starboard ruled_answer ruled_checks ruling.ruled
+    ruling_answer ruling_for ruling_of scaled_by search shared_sides side_of sides_of sin sine_divisors sine_step sine_units situation
+    situation_checks size slowing slowing_answer speed_of sqrt square sub only_pair tally target_comes_up target_of target_overtakes time_of
+    time_to_go to_bits to_degrees to_radians to_unsigned to_usize trial trial_clears trial_speeds trials trials_from trying.choice trying.first
+    trying.search trying.side_choice turned_minus turned_units unit units_of up_to velocity verdict whole_fold
 only_pair_holds = refl

@@ -48,11 +48,11 @@ pub fn trial_speeds(own: Speed) -> [Speed; SPEEDS]
 }
 
 // An altered course: one towards it, and the place of a contact that is likely to block it, since
-// it does at own speed. Nothing is promised of that place.
+// it does at own speed.
 #[derive(Clone, Copy)]
 pub struct Altered {
     towards: Components,
-    likely: usize,
+    likely: Option<usize>,
 }
 
 // The courses of one magnitude: none where the side is not permitted.
@@ -64,11 +64,7 @@ fn course(search: &Search<'_>, permitted: bool, side: Side, magnitude: f64) -> O
     if permitted {
         let v = avoidance::search::altered(search.own, avoidance::search::signed(side, magnitude));
         let towards = motion::vessel::unit(v.course.0);
-        let likely = clearance::likely_blocker(
-            search.own.speed.0 * towards,
-            search.scene,
-            search.floor,
-        );
+        let likely = clearance::blocker(search.own.speed.0 * towards, search.scene, search.floor);
         return Some(Altered { towards, likely });
     }
     None
@@ -96,10 +92,7 @@ fn try_side(
 {
     let c = course?;
     let v = speed.0 * c.towards;
-    if clearance::blocks_at(v, search.scene, search.floor, c.likely) {
-        return None;
-    }
-    let clearance = clearance::clears(v, search.scene, search.floor)?;
+    let clearance = clearance::clears_from(v, search.scene, search.floor, c.likely)?;
     Some(Chosen {
         side,
         magnitude: Angle(magnitude),
