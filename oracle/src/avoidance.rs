@@ -1,10 +1,11 @@
-//! Avoidance: the port's `avoid`, `search`, ruled search and slowing search against avoidance.rs on the port's elementary functions,
+//! Avoidance: the port's trial list, `avoid`, `search`, ruled search and slowing search against avoidance.rs on the port's elementary functions,
 //! behind document 01's argument checks.
 
 mod lists;
 mod one;
 mod ruled;
 mod slowing;
+mod trials;
 
 pub use lists::{how_many, own, style, traffic};
 pub use one::{answered, Avoid};
@@ -30,13 +31,14 @@ use crate::traffic_calls::{
 };
 use crate::vectors::Module;
 
-/// Adds records and answers of `avoid`, the search, the ruled search and the slowing search. An answer is the port's once it is known to
+/// Adds records and answers of `avoid`, the searches and the trial list. An answer is the port's once it is known to
 /// be the Rust's.
 pub fn write(module: &mut Module) {
     write_cases::<Avoid>(module, 150, 9);
     write_cases::<Search>(module, 60, 6);
     write_cases::<RuledCase>(module, 100, 9);
     write_cases::<SlowingCase>(module, 100, 10);
+    trials::write(module, 250);
 }
 
 /// So many cases that fit a record, with every part of their answers.
@@ -197,12 +199,13 @@ pub fn outcomes(count: u64) {
     look::<SlowingCase>(slowing);
 }
 
-/// Compares `avoid` on `count` cases, `search` and the slowing search on a tenth as many and the ruled search on a fifth as many, and
+/// Compares the trial list, `avoid` on `count` cases, `search` and the slowing search on a tenth as many and the ruled search on a fifth as many, and
 /// counts what occurs.
 pub fn compare(count: u64) -> bool {
     let [avoid, search, ruled, slowing] = counts(count);
     let mut good = compare_stated();
-    good &= slowing::compare_stated();
+    good &= slowing::compare_stated() && trials::compare_stated();
+    good &= trials::compare(count);
     good &= compare_cases::<Avoid>(avoid);
     good &= compare_cases::<Search>(search);
     good &= compare_cases::<RuledCase>(ruled);

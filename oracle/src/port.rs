@@ -63,7 +63,7 @@ macro_rules! words_exports {
 words_exports! {
     port_closest_point_of_approach port_approach_distance port_target_from_plot port_bow_crossing_range port_course_for_cpa
     port_relative_bearing_of port_rule_of_the_road port_precedence port_assess port_avoid port_search port_ruled_search port_collision_picture
-    port_slowing_search
+    port_slowing_search port_trial_count port_trial
 }
 
 /// A call of an export: its number in the records, and its arguments.
@@ -213,6 +213,24 @@ pub fn picture(own: [f64; 2], contacts: impl Iterator<Item = [f64; 4]>, limit: f
 /// The slowing search, which takes the words of the ruled search.
 pub fn slowing(ruled: Call<Vec<u64>>) -> Call<Vec<u64>> {
     Call { which: 13, words: ruled.words }
+}
+
+/// The trial list between two alterations: how many trials there are, and one of them.
+pub type Listed = Call<[u64; BEFORE]>;
+
+#[inline]
+fn listed(which: usize, least: f64, most: f64, k: u64) -> Listed {
+    let mut words = [0; BEFORE];
+    [words[9], words[10], words[19]] = [least.to_bits(), most.to_bits(), k];
+    Call { which, words }
+}
+
+pub fn trial_count(least: f64, most: f64) -> Listed {
+    listed(14, least, most, 0)
+}
+
+pub fn trial(least: f64, most: f64, k: u64) -> Listed {
+    listed(15, least, most, k)
 }
 
 extern "C" {

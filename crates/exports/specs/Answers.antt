@@ -14,7 +14,6 @@ use Rattle.motion.specs.declared.units.Direction.{Direction}
 use Rattle.motion.specs.declared.units.Distance.{Distance}
 use Rattle.motion.specs.declared.units.RelativeBearing.{RelativeBearing}
 use Rattle.motion.specs.declared.side.Side.{Side}
-use Rattle.motion.specs.declared.side.Side.TheVariants as Side
 use Rattle.motion.specs.declared.side.BySide.{BySide}
 use Rattle.relative_motion.specs.declared.approach.Cpa.{Cpa}
 use Rattle.relative_motion.specs.declared.approach.Track.{Track}
@@ -204,3 +203,7 @@ slowing_words (Err why) = refused 10 why
 abbrev pub chosen_words : Option Chosen → List ℕ
 chosen_words None = 0 ∷ 0 ∷ 0 ∷ 0 ∷ 0 ∷ 0 ∷ []
 chosen_words (Some c) = 0 ∷ 1 ∷ side c.side ∷ pattern c.magnitude.0 ∷ pattern c.clearance.distance.0 ∷ limiting c.clearance.limiting ∷ []
+
+-- ---- how many trials there are
+abbrev pub count_words : ℕ → List ℕ
+count_words count = 0 ∷ count ∷ []

@@ -1,7 +1,7 @@
 -- The arguments of the C exports, read from a list of words: own craft and what is the same for
 -- every contact in the first 20, then seven words for each contact. Floats are bit patterns,
 -- categories and visibilities have the sheet's codes; what the list lacks reads as 0.
-use Rattle.std.specs.Prelude.{cond, List, [], ◌∷◌, map, ℕ, ◌+◌, ◌-◌, ◌/◌, ◌%◌, ◌^◌, eqb, min, length, take, drop, get_or, replicate, Float, None, Some, Ok, Err}
+use Rattle.std.specs.Prelude.{cond, List, map, ℕ, ◌/◌, ◌%◌, ◌^◌, eqb, min, length, take, drop, get_or, replicate, Float, None, Some, Ok, Err}
 use Rattle.std.specs.Float.{binary64}
 use Rattle.std.specs.Float.Ieee.{of_bits}
 use Rattle.std.specs.Simd.{first_chunks}
@@ -61,6 +61,12 @@ desired ws = record { 0 = float ws 8 }
 
 -- 9 least and 10 most alteration, 11 whether there is a rate of turn, 12 the rate, 13 the sides: 0
 -- either, 1 starboard, else port
+abbrev pub least : List ℕ → Float
+least ws = float ws 9
+
+abbrev pub most : List ℕ → Float
+most ws = float ws 10
+
 unfoldable pub sides : ℕ → PermittedSides
 sides code = cond (eqb code 0) Permitted.Either (cond (eqb code 1) Permitted.Starboard Permitted.Port)
 
@@ -70,7 +76,7 @@ with_rate (Err why) rate = Err why
 
 unfoldable pub constraints : List ℕ → Result ManoeuvreConstraints Refusal
 constraints ws =
-    let made = constraints_answer (sides (code ws 13)) (record { 0 = float ws 9 }) (record { 0 = float ws 10 }) in
+    let made = constraints_answer (sides (code ws 13)) (record { 0 = least ws }) (record { 0 = most ws }) in
     cond (eqb (word ws 11) 0) made (with_rate made (float ws 12))
 
 -- 14 the limit of the closest approach, 15 and 16 that of the time to it, or the time between two
@@ -81,9 +87,13 @@ elapsed ws = record { secs = word ws 15; nanos = code ws 16 }
 abbrev pub policy : List ℕ → Result CpaPolicy Refusal
 policy ws = policy_answer (record { 0 = float ws 14 }) (elapsed ws)
 
--- 17 how far abaft the beam overtaking begins, 18 the half-width of head-on; 19 is not read
+-- 17 how far abaft the beam overtaking begins, 18 the half-width of head-on
 abbrev pub config : List ℕ → ColregsConfig
 config ws = record { overtaking_abaft_beam = record { 0 = float ws 17 }; head_on_half_width = record { 0 = float ws 18 } }
+
+-- 19 which trial of the list is asked for, counted from 0
+abbrev pub which : List ℕ → ℕ
+which ws = word ws 19
 
 -- ---- the contacts: the whole sevens of words after the first 20
 abbrev pub rest : List ℕ → List ℕ

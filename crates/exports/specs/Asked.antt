@@ -36,7 +36,7 @@ use Rattle.ruled_search.specs.declared.RuledManoeuvre.{RuledManoeuvre}
 use Rattle.ruled_search.specs.Ruled.{ruled_answer}
 use Rattle.slowing_search.specs.declared.SlowingManoeuvre.{SlowingManoeuvre}
 use Rattle.slowing_search.specs.Slowing.{slowing_answer}
-use Rattle.exports.specs.Arguments.{own, around, desired, sides, constraints, policy, contacts, entry, entries, elapsed, config, float, code}
+use Rattle.exports.specs.Arguments.{own, around, desired, sides, constraints, policy, least, most, contacts, entry, entries, elapsed, config, code}
 
 -- what is asked of one that may be refused
 abbrev pub given : {A B : Type 0} → Result A Refusal → (A → Result B Refusal) → Result B Refusal
@@ -113,4 +113,4 @@ slowing_asked ws =
 abbrev pub search_asked : List ℕ → Option Chosen
 search_asked ws =
     smallest (own ws).motion (floor_of (desired ws)) (map moving (targets (entries ws))) (permits (sides (code ws 13)))
-    (float ws 9) (float ws 10)
+    (least ws) (most ws)

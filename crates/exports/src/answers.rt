@@ -106,7 +106,7 @@ pub(crate) fn approach_distance_words(answer: Result<ApproachDistance, Refusal>)
 }
 
 // ---- one figure
-fn figure(x: f64) -> [u64; 2]
+pub(crate) fn figure(x: f64) -> [u64; 2]
     ensures { result ≡ Spec.figure x }
 {
     [0, pattern(x)]
@@ -403,4 +403,11 @@ pub(crate) fn chosen_words(choice: Option<Chosen>) -> [u64; 6]
             ]
         }
     }
+}
+
+// A count of trials.
+pub(crate) fn count_words(count: usize) -> [u64; 2]
+    ensures { result ≡ Spec.count_words count }
+{
+    [0, count as u64]
 }

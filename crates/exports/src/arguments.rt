@@ -9,6 +9,7 @@ use assessment::policy::CpaPolicy;
 use clearance::traffic::Entry;
 use elementary::error::Refusal;
 use manoeuvre::constraints::{ManoeuvreConstraints, PermittedSides};
+use manoeuvre::trials::TrialList;
 use math::duration::Duration;
 use motion::capacity::MAX_CONTACTS;
 use motion::units::{Angle, Direction, Distance, RateOfTurn, Speed};
@@ -106,6 +107,17 @@ pub(crate) fn sides(code: u32) -> PermittedSides
     }
 }
 
+// The trials from the least alteration to the most, whatever these are.
+pub(crate) fn trials(words: &[u64]) -> TrialList
+    ensures least { result.least ≡ Spec.least words.now }
+    ensures most { result.most ≡ Spec.most words.now }
+{
+    TrialList {
+        least: float(words, 9),
+        most: float(words, 10),
+    }
+}
+
 // The constraints, or the first refusal that making them meets.
 #[tactic(auto, unfolding(crate::specs::Arguments::constraints))]
 pub(crate) fn constraints(words: &[u64]) -> Result<ManoeuvreConstraints, Refusal>
@@ -120,6 +132,13 @@ pub(crate) fn constraints(words: &[u64]) -> Result<ManoeuvreConstraints, Refusal
         return Ok(c);
     }
     c.with_rate_of_turn(RateOfTurn(float(words, 12)))
+}
+
+// Which trial of the list.
+pub(crate) fn which(words: &[u64]) -> usize
+    ensures { result ≡ Spec.which words.now }
+{
+    word(words, 19) as usize
 }
 
 // The time of a limit, or between two plots.

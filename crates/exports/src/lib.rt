@@ -10,6 +10,8 @@ mod picture;
 
 ghost use Rattle.std.specs.Prelude.{◌≡◌};
 ghost use Rattle.situation.specs.Situation as Situation;
+ghost use Rattle.manoeuvre.specs.Step as Step;
+ghost use Rattle.manoeuvre.specs.Trials as Trials;
 ghost use Rattle.exports.specs.Answers as Answer;
 ghost use Rattle.exports.specs.Arguments as Argument;
 ghost use Rattle.exports.specs.Asked as Asked;
@@ -21,7 +23,6 @@ use clearance::traffic::Entry;
 use elementary::error::Refusal;
 use manoeuvre::AvoidanceManoeuvre;
 use manoeuvre::constraints::ManoeuvreConstraints;
-use manoeuvre::trials::TrialList;
 use motion::units::Distance;
 use ruled_search::RuledManoeuvre;
 use situation::party::Circumstances;
@@ -231,13 +232,9 @@ fn search_asked(words: &[u64]) -> Option<Chosen>
 {
     let scene = clearance::traffic::scene_of(&arguments::entries(words));
     let own = arguments::own(words).motion;
-    let list = TrialList {
-        least: arguments::float(words, 9),
-        most: arguments::float(words, 10),
-    };
     Search::new(own, &scene, arguments::desired(words)).smallest(
         Sides::from(arguments::sides(arguments::code(words, 13))),
-        list,
+        arguments::trials(words),
     )
 }
 
@@ -246,4 +243,24 @@ pub extern "C" fn port_search(part: u32, words: &[u64]) -> u64
     ensures { result ≡ Answer.word (Answer.chosen_words (Asked.search_asked words.now)) part }
 {
     answers::word(&answers::chosen_words(search_asked(words)), part)
+}
+
+// How many trials the list has, as word 1.
+#[unsafe(no_mangle)]
+pub extern "C" fn port_trial_count(part: u32, words: &[u64]) -> u64
+    ensures { result ≡ Answer.word (Answer.count_words (Step.count (Argument.least words.now) (Argument.most words.now))) part }
+{
+    answers::word(
+        &answers::count_words(arguments::trials(words).count()),
+        part,
+    )
+}
+
+// One trial, as word 1.
+#[unsafe(no_mangle)]
+pub extern "C" fn port_trial(part: u32, words: &[u64]) -> u64
+    ensures { result ≡ Answer.word (Answer.figure (Trials.trial (Argument.least words.now) (Argument.most words.now) (Argument.which words.now))) part }
+{
+    let trial = arguments::trials(words).trial(arguments::which(words));
+    answers::word(&answers::figure(trial), part)
 }

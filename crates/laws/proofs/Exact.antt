@@ -58,7 +58,7 @@ unfolding of_int
 whole-value n h = round_whole binary64 false n h
 
 -- ---- a product with a power of two
-unlike_false : (s : Bool) → unlike s false ≡ s
+pub unlike_false : (s : Bool) → unlike s false ≡ s
 unlike_false true = refl
 unlike_false false = refl
 

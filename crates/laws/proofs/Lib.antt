@@ -8,6 +8,7 @@ pub mod First
 pub mod Fold
 pub mod Members
 pub mod Numbers
+pub mod One
 pub mod Order
 pub mod Parts
 pub mod Pattern

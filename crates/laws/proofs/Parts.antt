@@ -13,13 +13,14 @@ use lib.Ieee.Order.{round_mono}
 use lib.Ieee.Scale.{grid, overflow, finite, round_under, round_same}
 use Rattle.laws.specs.Eighths.{eighth}
 use Rattle.laws.specs.Ops.{◌⊗◌}
-use Rattle.laws.specs.Units.{Units, sign, units_of}
+use Rattle.laws.specs.Units.{Units, units_of}
 use Rattle.laws.proofs.Amount.{Amount, amount_of, amount_of_units, at_most_amounts, whole-units}
 use Rattle.laws.proofs.Compare.{eq-values}
 use Rattle.laws.proofs.Error.{round-value}
-use Rattle.laws.proofs.Exact.{round_own, round_power}
+use Rattle.laws.proofs.Exact.{round_power}
+use Rattle.laws.proofs.One.{mul_one}
 use Rattle.laws.proofs.Size.{at_most-units}
-use Rattle.laws.proofs.Units.{form, own_units, units_are, finite_of_units, same_float, rescale, mul-units, div-units}
+use Rattle.laws.proofs.Units.{form, units_are, finite_of_units, same_float, rescale, mul-units, div-units}
 
 -- ---- k / 8
 -- `eighth-is.k`: the bit pattern of k / 8, up to 8 / 8
@@ -53,14 +54,6 @@ up_to_one k h = (eighth-units k (lt_of_le_of_lt h (lit< tt)), le_trans (mul-le-m
 product : (x y : Float) (s : Bool) (a b : ℕ) → Units x s a → Units y false b → x ⊗ y ≡ round binary64 s (a * b) (2 ^ 1074 * 2 ^ 1074)
 product x y true a b v w = mul-units x y true false a b v w
 product x y false a b v w = mul-units x y false false a b v w
-
-pub mul_one : (x : Float) → T (fits binary64 x) → T (finite x) → x ⊗ of_bits binary64 0x3ff0_0000_0000_0000 ≡ x
-mul_one x t f =
-    let u = 2 ^ 1074 in
-    let n = units_of x in
-    let v = own_units x t f in
-    product x (of_bits binary64 0x3ff0_0000_0000_0000) (sign x) n u v (unfold of_bits in (refl, refl))
-    ∙ round_same binary64 (sign x) (n * u) (u * u) n u (lit< tt) (lit< tt) (mul_assoc n u u) ∙ round_own x (sign x) n u t (lit< tt) v
 
 -- a fraction that rounds to at most n units is in range
 rounds_under : (a c n : ℕ) (y : Float) → 0 < c → Units y false n → T (le (round binary64 false a c) y)
@@ -134,7 +127,7 @@ module _ (x : Float) (fit : T (fits binary64 x)) (number : T (finite x)) (not_ne
 
   -- ---- by eighths
   pub at_eight : x ⊗ eighth 8 ≡ x
-  at_eight = ap (λ y. x ⊗ y) (sym eighth-is.8) ∙ mul_one x fit number
+  at_eight = ap (λ y. x ⊗ y) (sym eighth-is.8) ∙ mul_one x fit
 
   pub in_order : (j k : ℕ) → j ≤ k → k ≤ 8 → T (le (x ⊗ eighth j) (x ⊗ eighth k))
   in_order j k h m =

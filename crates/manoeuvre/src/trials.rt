@@ -1,6 +1,7 @@
 // The trial list of a side (document 01, 'Trial list'): least plus k, for k from 0 to the whole
 // part of most minus least, each sum and difference rounded once, cut at most. In degrees.
 ghost use Rattle.std.specs.Prelude.{◌≡◌, length};
+ghost use Rattle.manoeuvre.specs.Step as Step;
 ghost use Rattle.manoeuvre.specs.Trials as Spec;
 
 // The trials from the least alteration to the most.
@@ -19,10 +20,12 @@ impl TrialList {
         math::to_usize(self.most - self.least)
     }
 
-    // How many trials there are.
-    #[tactic(auto, using(crate::proofs::Listed::counted, crate::proofs::Listed::room))]
+    // How many trials there are: as many as a step of 1 degree makes of the difference, for which
+    // nothing is divided (request R-4).
+    #[tactic(auto, using(crate::proofs::Listed::counted, crate::proofs::Listed::room, crate::proofs::Step::counted))]
     pub fn count(self) -> usize
-        ensures { result ≡ length (Spec.trials self.least self.most) }
+        ensures listed { result ≡ length (Spec.trials self.least self.most) }
+        ensures by_step { result ≡ Step.count self.least self.most }
     {
         self.last() + 1
     }

@@ -36,7 +36,9 @@ impl Replayed for Module {
             10 => exports::port_search(part, words),
             11 => exports::port_ruled_search(part, words),
             12 => exports::port_collision_picture(part, words),
-            _ => exports::port_slowing_search(part, words),
+            13 => exports::port_slowing_search(part, words),
+            14 => exports::port_trial_count(part, words),
+            _ => exports::port_trial(part, words),
         }
     }
 }

@@ -1,6 +1,6 @@
-//! A child module of the listed avoidance.rs, and so one that may call its private `search` and `clears`.
+//! A child module of the listed avoidance.rs, and so one that may use its private `search`, `clears` and `ALTERATION_STEP_DEG`.
 
-use super::{clears, search, AvoidanceManoeuvre, Encounter, ManoeuvreConstraints};
+use super::{clears, math, search, AvoidanceManoeuvre, Encounter, ManoeuvreConstraints, ALTERATION_STEP_DEG};
 use crate::error::Result;
 use crate::event::TargetId;
 use crate::relative_motion::{Contact, Vessel};
@@ -26,4 +26,14 @@ pub fn searched(
 pub fn clearing(list: &[(Contact, Vessel)], desired: Distance) -> impl Fn(Vessel, f64) -> Option<(Distance, Option<TargetId>)> {
     let encounters = encounters(list);
     move |own, alteration| clears(own, alteration, &encounters, desired)
+}
+
+/// The last step of `search`'s list, by the words of its lines.
+pub fn steps(least: f64, most: f64) -> usize {
+    math::to_usize((most - least) / ALTERATION_STEP_DEG)
+}
+
+/// A step's alteration, likewise.
+pub fn trial(least: f64, most: f64, step: usize) -> f64 {
+    (least + math::count_to_f64(step) * ALTERATION_STEP_DEG).min(most)
 }

@@ -7,4 +7,4 @@ pub returns : goal.returns
 unfolding smallest between tried_both
 returns c =
     trials_first (both c.args.sides (trial_clears_computed c.args.self.now.own c.args.self.now.floor c.args.self.now.scene.now))
-    c.args.list.least c.args.list.most _ c.count.ensures _ _ (λ k r q called. search rules) _ c.find_map.ensures.runs
+    c.args.list.least c.args.list.most _ c.count.ensures.listed _ _ (λ k r q called. search rules) _ c.find_map.ensures.runs
