@@ -14,20 +14,20 @@ use Rattle.laws.proofs.One.{mul_one, div_one}
 use Rattle.math.specs.Cast.{to_usize}
 use Rattle.manoeuvre.specs.Trials.{last, trial, trials_from, trials}
 use Rattle.manoeuvre.specs.Step as Step
-use Rattle.manoeuvre.proofs.Listed.{count}
+use Rattle.manoeuvre.proofs.Listed as Listed
 
 module _ (least most : Float) where
   pub same_last : Step.steps least most ≡ last least most
   unfolding Step.steps last
   same_last = ap to_usize (div_one (most ⊖ least) (sub-fits binary64 most least))
 
-  pub counted : (n : ℕ) → n ≡ last least most → n + 1 ≡ Step.count least most
-  unfolding Step.count
-  counted n e = rw (add-one n) (ap suc (e ∙ sym same_last))
-
   pub same_count : length (trials least most) ≡ Step.count least most
   unfolding Step.count
-  same_count = count least most ∙ ap suc (sym same_last)
+  same_count = Listed.count least most ∙ ap suc (sym same_last)
+
+  -- what the code owes
+  pub counted : (n : ℕ) → n ≡ last least most → n + 1 ≡ Step.count least most
+  counted n e = Listed.counted least most n e ∙ same_count
 
   pub same_trial : (k : ℕ) → Step.trial least most k ≡ trial least most k
   unfolding Step.trial trial of_int

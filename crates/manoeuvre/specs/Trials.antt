@@ -1,6 +1,6 @@
 -- The trial list of a side (01, 'Trial list': 'least plus k for k from 0 to the whole part of most
 -- minus least, each sum and difference rounded once, cut at most'), and what is proved of it.
--- avoidance.rs, `search`, has the same list with a step of 1 as a factor and a divisor.
+-- avoidance.rs, `search`, has the same list with a step of 1 as a factor and a divisor (Step.antt).
 use Rattle.std.specs.Prelude.{cond, List, [], ◌∷◌, ℕ, zero, suc, ◌≤◌, ◌<◌, T, pos, Float}
 use Rattle.std.specs.Float.{binary64}
 use Rattle.std.specs.Float.Ieee.{eq, lt, le, of_bits, of_int, fits}
