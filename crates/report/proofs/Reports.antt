@@ -130,7 +130,8 @@ module _ (s : List ℕ) (ok : sheet_verdict s ≡ (Ok tt)) where
         let g = Ruling.each_good (own_of h) (length rs) (map entry_of rs) (wind_from h) (desired h) (constraints h) search_accepted e in-traffic in
         ap (λ v. cpa_if_accepted v (approach (own_of h).motion e.contact e.target.motion))
         (accepted (encounter_checks (own_of h).motion e.contact e.target.motion)
-        (good_both (vessel_checks (own_of h).motion) (contact_checks e.contact ++ vessel_checks e.target.motion) (Ruling.party-vessel (own_of h) (Ruling.own_good (own_of h) (length rs) (map entry_of rs) (wind_from h) (desired h) (constraints h) search_accepted))
+        (good_both (vessel_checks (own_of h).motion) (contact_checks e.contact ++ vessel_checks e.target.motion)
+        (Ruling.party-vessel (own_of h) (Ruling.own_good (own_of h) (length rs) (map entry_of rs) (wind_from h) (desired h) (constraints h) search_accepted))
         (good_both (contact_checks e.contact) (vessel_checks e.target.motion) g.0 (Ruling.party-vessel e.target g.1))))
 
     rules : ruling_answer (situation_of (own_of h) visibility (wind_from h) e) standard ≡ Ok (ruling_of standard (geometry_of (situation_of (own_of h) visibility (wind_from h) e)))

@@ -41,7 +41,8 @@ range_in (Ok (Track.Opening range)) other = range
 range_in (Ok (Track.Stationary range)) other = range
 range_in (Err why) other = other
 
-by_cases : (w : Result (Unit {0}) Refusal) (a b : Bool) (range : Distance) (cpa : Cpa) → range_in (cpa_if_accepted w (cond a (Track.Stationary range) (cond b (Track.Opening range) (Track.Closing cpa)))) range
+by_cases : (w : Result (Unit {0}) Refusal) (a b : Bool) (range : Distance) (cpa : Cpa)
+    → range_in (cpa_if_accepted w (cond a (Track.Stationary range) (cond b (Track.Opening range) (Track.Closing cpa)))) range
     ≡ range
 by_cases (Err why) a b range cpa = refl
 by_cases (Ok tt) true b range cpa = refl
@@ -148,7 +149,8 @@ module _ (desired : Distance) (v : Vessel) (o : FitVessel v) (entries : List Ent
         by c = let q = c.each (clearance_of e) (in-clearances e m) in subst (λ d. T (le p.distance.0 d.0)) (sym (passes_at desired v e q.0 q.1)) q.2
 
     pub free : entries ≡ [] → p ≡ record { distance = record { 0 = largest }; limiting = None }
-    free e = ⊎_elim (λ k. k.1) (λ c. absurd (Memᴰ.not-nil (subst (Memᴰ (Some p.distance)) (sym c.split ∙ ap (λ es. map (contact_clears v (floor_of desired)) (map target_of es)) e) (Memᴰ.append_right c.before (Memᴰ.head refl))))) said
+    free e = ⊎_elim (λ k. k.1) (λ c. absurd (Memᴰ.not-nil (subst (Memᴰ (Some p.distance))
+        (sym c.split ∙ ap (λ es. map (contact_clears v (floor_of desired)) (map target_of es)) e) (Memᴰ.append_right c.before (Memᴰ.head refl))))) said
 
     pub first : (entries ≡ [] → ⊥) → (place : ℕ) × (p.limiting ≡ Some place) × FirstAt entries v p.distance place
     first some = ⊎_elim (λ k. absurd (some (none_of_map target_of entries (none_of_map (contact_clears v (floor_of desired)) (map target_of entries) k.0)))) by said
@@ -165,6 +167,7 @@ module _ (desired : Distance) (v : Vessel) (o : FitVessel v) (entries : List Ent
                 split = k.split;
                 placed = refl;
                 passes = passes_at desired v k.it p.distance k.is_it;
-                earlier = λ e m. let q = c.earlier (clearance_of e) (subst (Memᴰ (clearance_of e)) k.is_front (Memᴰ.map clearance_of m)) in subst (λ d. T (lt p.distance.0 d.0)) (sym (passes_at desired v e q.0 q.1)) q.2;
+                earlier = λ e m. let q = c.earlier (clearance_of e) (subst (Memᴰ (clearance_of e)) k.is_front (Memᴰ.map clearance_of m)) in
+                    subst (λ d. T (lt p.distance.0 d.0)) (sym (passes_at desired v e q.0 q.1)) q.2;
               },
             )

@@ -73,10 +73,15 @@ module _ (own : Party) (count : ℕ) (entries : List Entry) (visibility : Visibi
       on = altered own.motion (signed side m)
 
       fit : FitVessel (altered own.motion (signed side m))
-      fit = altered_fit own.motion (signed side m) (Accepted.own_fit own count entries wind desired c h k) (signed-small side m (trial-small least most (Accepted.limits own count entries wind desired c h k) m t))
+      fit =
+          altered_fit own.motion (signed side m) (Accepted.own_fit own count entries wind desired c h k)
+          (signed-small side m (trial-small least most (Accepted.limits own count entries wind desired c h k) m t))
 
       approaches : (e : Entry) → Memᴰ e entries → (a : Track Cpa) × (approach_to (altered own.motion (signed side m)) e ≡ Ok a)
-      approaches e i = (approach (altered own.motion (signed side m)) e.contact e.target.motion, Contacts.answers desired (altered own.motion (signed side m)) e fit (Accepted.entry_fit own count entries wind desired c h k e i))
+      approaches e i = (
+        approach (altered own.motion (signed side m)) e.contact e.target.motion,
+        Contacts.answers desired (altered own.motion (signed side m)) e fit (Accepted.entry_fit own count entries wind desired c h k e i),
+      )
 
       fails : clears_by side m ≡ None → Clears own entries visibility wind desired c side m → ⊥
       unfolding trial_clears clears

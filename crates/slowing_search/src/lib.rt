@@ -63,7 +63,8 @@ fn chosen_pair(
     sides: Sides,
     c: ManoeuvreConstraints,
 ) -> Option<Pair>
-    ensures { result ≡ Computed.smallest own (floor_of desired) (map moving (targets (take max_contacts t.now))) sides (Spec.trial_speeds own.speed true) c.least_alteration.0 c.most_alteration.0 }
+    ensures { result ≡ Computed.smallest own (floor_of desired) (map moving (targets (take max_contacts t.now))) sides
+        (Spec.trial_speeds own.speed true) c.least_alteration.0 c.most_alteration.0 }
 {
     let scene = clearance::traffic::scene_of(t);
     let search = Search::new(own, &scene, desired);

@@ -15,4 +15,18 @@ listed c =
 
 pub returns : goal.returns
 unfolding floor_of
-returns c = rw (c.smallest.ensures, c.new.ensures.own, c.new.ensures.floor, c.new.ensures.scene, listed c, c.from.ensures, c.sides.ensures, c.code.ensures, c.desired.ensures, c.trials.ensures.least, c.trials.ensures.most, c.own.ensures) refl
+returns c =
+    rw (
+      c.smallest.ensures,
+      c.new.ensures.own,
+      c.new.ensures.floor,
+      c.new.ensures.scene,
+      listed c,
+      c.from.ensures,
+      c.sides.ensures,
+      c.code.ensures,
+      c.desired.ensures,
+      c.trials.ensures.least,
+      c.trials.ensures.most,
+      c.own.ensures,
+    ) refl
