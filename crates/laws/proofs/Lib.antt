@@ -14,6 +14,7 @@ pub mod Parts
 pub mod Pattern
 pub mod Ratio
 pub mod Rounding
+pub mod Signed
 pub mod Size
 pub mod Units
 pub mod Whole
