@@ -21,6 +21,8 @@ const LISTED: &[(&str, &str)] = &[
     ("colregs", "crates/kinavis-colregs/src/lib.rs"),
     ("traffic_assessment", "crates/kinavis-traffic/src/assessment.rs"),
     ("traffic_avoidance", "crates/kinavis-traffic/src/avoidance.rs"),
+    ("observation", "crates/kinavis-traffic/src/observation.rs"),
+    ("track", "crates/kinavis-traffic/src/track.rs"),
 ];
 
 /// The listed files whose private parts are references: the picture's fields, and `search` and `clears` over lists of contacts. A line

@@ -6,7 +6,7 @@ use std::time::Instant;
 use crate::angle::{wrap180, wrap360};
 use crate::avoidance::{self, Avoid, RuledCase, SlowingCase};
 use crate::inputs::Random;
-use crate::{assessment, calls, motion, port, ruling, sheet, sheet_compare, traffic_calls};
+use crate::{assessment, calls, motion, plots, port, ruling, sheet, sheet_compare, traffic_calls};
 
 const COUNT: usize = 4096;
 const ROUNDS: usize = 400;
@@ -98,6 +98,7 @@ pub fn all() {
     assess();
     avoid_and_search();
     slowing_search();
+    motion_of_plots();
     reports();
     growth();
 }
@@ -124,6 +125,16 @@ fn rule_of_the_road() {
     let six = measure(&cases, |case| calls::ruling(case.codes, case.words()));
     let std = measure(&cases, |case| kinavis_std::calls::ruling(case.codes, case.words()));
     row("rule_of_the_road", port, six, std);
+}
+
+/// A run of 8 plots and its fit, likewise; each window and each track is filled anew.
+fn motion_of_plots() {
+    let cases = plots::answered(COUNT / 4);
+    let calls: Vec<_> = cases.iter().map(|plots| port::fit(plots)).collect();
+    let port = measure(&calls.iter().collect::<Vec<_>>(), |call| call.part(1));
+    let six = measure(&cases, |plots| crate::track_calls::run(&plots));
+    let std = measure(&cases, |plots| kinavis_std::track_calls::run(&plots));
+    row("8 plots and their fit", port, six, std);
 }
 
 /// The assessment, likewise.

@@ -6,7 +6,7 @@ use crate::angle::{wrap180, wrap360};
 use crate::avoidance;
 use crate::big::{units, Big};
 use crate::inputs::{Random, LIMITS};
-use crate::{arcs, assessment, circular, math, method, motion, port, ruling, sheet_compare};
+use crate::{arcs, assessment, circular, math, method, motion, plots, port, ruling, sheet_compare};
 
 /// Sheets among the comparisons of all parts: each takes a run of the program.
 const MOST_SHEETS: u64 = 100_000;
@@ -234,6 +234,7 @@ pub fn all(count: u64, part: Option<&str>) -> bool {
     let parts: &[Part<bool>] = &[
         ("elementary", elementary, u64::MAX),
         ("motion", motion::compare, u64::MAX),
+        ("plots", plots::compare, u64::MAX),
         ("ruling", ruling::compare, u64::MAX),
         ("assessment", assessment::compare, u64::MAX),
         ("avoidance", avoidance::compare, u64::MAX),

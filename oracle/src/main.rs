@@ -1,5 +1,5 @@
 //! `oracle compare [N [PART]]`: compares each ported function with its reference on N inputs (default 1,000,000); with a part, those of
-//! `elementary`, `motion`, `ruling`, `assessment`, `avoidance` or `sheets` alone.
+//! `elementary`, `motion`, `plots`, `ruling`, `assessment`, `avoidance` or `sheets` alone.
 //! `oracle outcomes [N [PART]]`: counts what the references of `avoidance` and `sheets` answer on the inputs that `compare` would use.
 //! `oracle sheet`: prints what the program `encounter` has to print for the sheet on standard input.
 //! `oracle vectors`: writes the records and answers that the gate replays.
@@ -16,6 +16,7 @@ mod compare;
 mod inputs;
 mod method;
 mod motion;
+mod plots;
 mod port;
 mod ruling;
 mod sheet_compare;

@@ -63,7 +63,7 @@ macro_rules! words_exports {
 words_exports! {
     port_closest_point_of_approach port_approach_distance port_target_from_plot port_bow_crossing_range port_course_for_cpa
     port_relative_bearing_of port_rule_of_the_road port_precedence port_assess port_avoid port_search port_ruled_search port_collision_picture
-    port_slowing_search port_trial_count port_trial
+    port_slowing_search port_trial_count port_trial port_window port_fit
 }
 
 /// A call of an export: its number in the records, and its arguments.
@@ -231,6 +231,20 @@ pub fn trial_count(least: f64, most: f64) -> Listed {
 
 pub fn trial(least: f64, most: f64, k: u64) -> Listed {
     listed(15, least, most, k)
+}
+
+/// A run of plots, three words each, that is handed to an empty window: what the window then holds, and the motion that is fitted.
+fn plotted(which: usize, plots: &[(f64, f64, i64)]) -> Call<Vec<u64>> {
+    let words = plots.iter().flat_map(|&(north, east, second)| [north.to_bits(), east.to_bits(), second as u64]).collect();
+    Call { which, words }
+}
+
+pub fn window(plots: &[(f64, f64, i64)]) -> Call<Vec<u64>> {
+    plotted(16, plots)
+}
+
+pub fn fit(plots: &[(f64, f64, i64)]) -> Call<Vec<u64>> {
+    plotted(17, plots)
 }
 
 extern "C" {

@@ -10,7 +10,7 @@ use crate::arcs::{arcsine_input, arctangent_input};
 use crate::avoidance;
 use crate::compare::{angle_input, hypot_input, hypotenuse_holds, time};
 use crate::inputs::{Random, LIMITS};
-use crate::{assessment, math, method, motion, port, ruling, sheet_compare};
+use crate::{assessment, math, method, motion, plots, port, ruling, sheet_compare};
 
 /// The pattern that stands for every NaN.
 const NAN: u64 = 0x7ff8_0000_0000_0000;
@@ -159,6 +159,7 @@ pub fn write() {
     ruling::write(&mut module);
     assessment::write(&mut module);
     avoidance::write(&mut module);
+    plots::write(&mut module);
     store_records("module_main", &module.records, &module.answers);
     let (sheets, lines) = sheet_compare::replayed();
     store("sheet_main", sheets.as_bytes(), &lines);

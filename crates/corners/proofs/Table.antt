@@ -5,6 +5,7 @@ use mathlib.Core.Path.{◌≡◌, refl}
 use mathlib.Core.Bool.{false, true}
 use mathlib.Core.List.{List, [], ◌++◌, ◌∷◌, flat_map}
 use Prim.Native.Nat.{ℕ}
+use lib.IntN.{negsuc}
 use Prim.Native.String.{String}
 use lib.ListN.{length}
 use lib.Ieee.{add, div, eq, le, lt, mul, neg, of_bits, of_int, rem, round, size, sub, to_bits, to_unsigned}
@@ -47,6 +48,9 @@ use Rattle.relative_motion.specs.Bow.{bow_answer, crossing, determinant}
 use Rattle.relative_motion.specs.Plot.{plot_answer, plot_checks, plot_verdict, relative_motion, solution, solved}
 use Rattle.relative_motion.specs.Plot as plots
 use Rattle.relative_motion.specs.Course.{along, at_speed, avoidance_of, choice_of, clamped, course_answer, course_for, grazing, offered}
+use Rattle.track.specs.Fit.{fit_answer}
+use Rattle.track.specs.Plot.{is_offset, is_time}
+use Rattle.track.specs.Window.{verdict_on}
 use Rattle.situation.specs.Arguments.{is_width, party_checks, situation_checks}
 use Rattle.situation.specs.Situation.{heading, party, situation, with_heading, with_wind_from}
 use Rattle.situation.specs.declared.party.Visibility.TheVariants.{Restricted}
@@ -134,6 +138,9 @@ table =
     ∷ row (answer_number (bow_answer (moving 0 10) (at 180 4) (moving 90 10))) 8
     ∷ row (answer_number (course_answer (moving 0 10) (at 0 1) (moving 0 0) (miles 1))) 9
     ∷ row (answer_number (course_answer (moving 0 1) (at 180 4) (moving 0 20) (miles 1))) 11
+    -- and of request R-5's two: a fit of no plot, a plot at the second -1
+    ∷ row (answer_number (fit_answer [])) 17
+    ∷ row (answer_number (verdict_on [] (record { offset = offset (at 0 4); seconds = negsuc 0 }))) 18
     -- ---- rules.rs
     -- 'closing, relative 0, aspect 112.5: not overtaking. Any aspect above is'
     ∷ rules (seen (power 0 20) 0 5 (on 0x4050_e000_0000_0000 10)) (Crossing Port) StandOn Rule17 true false true true
@@ -254,5 +261,5 @@ table =
     ∷ []
 
 pub holds : every table ≡ true
-unfolding abaft abs add along alter_line altered angle_steps search_answer answered approach approach_from arcsine.arcsine_steps arcsine.arcsine_units arcsine.at_most arcsine.fits_in arcsine.rest arcsine.rest_step arcsine.scale arcsine.scale_from arcsine.upper_steps arctangent_steps asin.asin asin.in_domain aspect_of assess_answer assessment at_speed atan2 avoid_answer avoid_checks avoidance_of avoided both_finite bow_answer bytes category_checks category_of choice search choice_of circular.from_units circular.in_domain circular.scaled clamped clearing clears clock closest closing_rate code_checks constraint_checks constraints_answer constraints_of contact_count contact_line contact_lines contacts_checks cos cosine_divisors cosine_step cosine_units course_answer course_for cpa_answer crossing decided decimal_of degrees_per_radian determinant difference digits_up_to direction_of distance div drift_of drift_per_hour encounter_checks encounter_of entry_checks entry_of eq even geometry_of first first_rows flat_map floor_of fold folds.turned forward_of_beam from_hours from_seconds grazing greatest greatest_to half_fold reciprocal header_of heading horner hours_of hypot hypots.in_domain id_at in_both in_order in_range is_accepted is_before is_closing is_direction is_distance is_effectively_zero is_head_on is_speed is_width nearer larger last layout le line_of lines_of lt manoeuvres.manoeuvre manoeuvres.side_of manoeuvres.turned mul nanos_in neg negative not_above octant of_bits of_int offered offset Listed.first ordered own_comes_up own_of own_overtakes party party_checks party_of contact_clears permitted placed plot_answer plot_checks plot_verdict plots.target_of policy_answer policy_of rule17_port rule19_port quarters range_rate readable refused_line relative_motion relative_of relative_speed relative_velocity rem removed report resolved rest risk_at round row_from rows_of rule18 ruled ruled_answer ruled_checks ruling_answer ruling_for ruling_of scaled_by seed seeded_choice seeded_side shared_sides sheet_verdict side_choice side_of sides_of sin sine_divisors sine_step sine_units situation situation_checks size solution solved speed_of spelled sqrt square rule19_starboard sub table tally target_comes_up target_of target_overtakes thousandths_of three_decimals time_of time_to_go to_bits to_degrees to_radians to_unsigned to_usize trial trial_clears trials trials_from turned_minus turned_units unit units_of up_to value_checks values.scaled velocity verdict vessel_of visibility_of whole_fold wind_from with_heading with_rate_of_turn with_wind_from words
+unfolding abaft abs add along alter_line altered angle_steps search_answer answered approach approach_from arcsine.arcsine_steps arcsine.arcsine_units arcsine.at_most arcsine.fits_in arcsine.rest arcsine.rest_step arcsine.scale arcsine.scale_from arcsine.upper_steps arctangent_steps asin.asin asin.in_domain aspect_of assess_answer assessment at_speed atan2 avoid_answer avoid_checks avoidance_of avoided both_finite bow_answer bytes category_checks category_of choice search choice_of circular.from_units circular.in_domain circular.scaled clamped clearing clears clock closest closing_rate code_checks constraint_checks constraints_answer constraints_of contact_count contact_line contact_lines contacts_checks cos cosine_divisors cosine_step cosine_units course_answer course_for cpa_answer crossing decided decimal_of degrees_per_radian determinant difference digits_up_to direction_of distance div drift_of drift_per_hour encounter_checks encounter_of entry_checks entry_of eq even geometry_of first first_rows fit_answer flat_map floor_of fold folds.turned forward_of_beam from_hours from_seconds grazing greatest greatest_to half_fold reciprocal header_of heading horner hours_of hypot hypots.in_domain id_at in_both in_order in_range is_accepted is_before is_closing is_direction is_distance is_effectively_zero is_head_on is_offset is_speed is_time is_width nearer larger last layout le line_of lines_of lt manoeuvres.manoeuvre manoeuvres.side_of manoeuvres.turned mul nanos_in neg negative not_above octant of_bits of_int offered offset Listed.first ordered own_comes_up own_of own_overtakes party party_checks party_of contact_clears permitted placed plot_answer plot_checks plot_verdict plots.target_of policy_answer policy_of rule17_port rule19_port quarters range_rate readable refused_line relative_motion relative_of relative_speed relative_velocity rem removed report resolved rest risk_at round row_from rows_of rule18 ruled ruled_answer ruled_checks ruling_answer ruling_for ruling_of scaled_by seed seeded_choice seeded_side shared_sides sheet_verdict side_choice side_of sides_of sin sine_divisors sine_step sine_units situation situation_checks size solution solved speed_of spelled sqrt square rule19_starboard sub table tally target_comes_up target_of target_overtakes thousandths_of three_decimals time_of time_to_go to_bits to_degrees to_radians to_unsigned to_usize trial trial_clears trials trials_from turned_minus turned_units unit units_of up_to value_checks values.scaled velocity verdict vessel_of visibility_of whole_fold wind_from with_heading with_rate_of_turn with_wind_from words
 holds = refl

@@ -2,7 +2,7 @@
 use Rattle.std.specs.Prelude.{ℕ, Err, Ok}
 use Rattle.std.specs.declared.result.Result.{Result}
 use Rattle.elementary.specs.declared.error.Refusal.{Refusal}
-use Rattle.elementary.specs.declared.error.Refusal.TheVariants.{Angle, Speed, Distance, Constraints, NoTrialClears, Time, AlongOwnTrack, NotAhead, InsideDesired, NoOwnSpeed, NoOtherCourse, Config, NoSharedSide, TooManyContacts, Layout, UnknownCode}
+use Rattle.elementary.specs.declared.error.Refusal.TheVariants.{Angle, Speed, Distance, Constraints, NoTrialClears, Time, AlongOwnTrack, NotAhead, InsideDesired, NoOwnSpeed, NoOtherCourse, Config, NoSharedSide, TooManyContacts, Layout, UnknownCode, TooFewPlots, PlotTime}
 
 abbrev pub number_of : Refusal → ℕ
 number_of Angle = 1
@@ -21,6 +21,8 @@ number_of NoSharedSide = 13
 number_of TooManyContacts = 14
 number_of Layout = 15
 number_of UnknownCode = 16
+number_of TooFewPlots = 17
+number_of PlotTime = 18
 
 -- the number of any answer, 0 where there is one
 abbrev pub answer_number : {A : Type 0} → Result A Refusal → ℕ

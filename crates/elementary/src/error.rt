@@ -39,10 +39,14 @@ pub enum Refusal {
     Layout = 15,
     // An unknown code on a sheet.
     UnknownCode = 16,
+    // Fewer than two plots in the window at a fit.
+    TooFewPlots = 17,
+    // A plot with a time below 0, above 2^31 - 1 s or not later than the newest that is kept.
+    PlotTime = 18,
 }
 
 impl Refusal {
-    // The number in document 01's table, 1 to 16.
+    // The number in document 01's table, 1 to 18.
     pub fn number(self) -> u8
         ensures { result ≡ number_of self }
     {

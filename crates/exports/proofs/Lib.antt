@@ -1,3 +1,4 @@
 -- What code owes.
 pub mod ArgumentsCode
 pub mod Patterns
+pub mod PlotsCode

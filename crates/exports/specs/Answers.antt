@@ -13,6 +13,7 @@ use Rattle.math.specs.declared.duration.Duration.{Duration}
 use Rattle.motion.specs.declared.units.Direction.{Direction}
 use Rattle.motion.specs.declared.units.Distance.{Distance}
 use Rattle.motion.specs.declared.units.RelativeBearing.{RelativeBearing}
+use Rattle.motion.specs.declared.vessel.Vessel.{Vessel}
 use Rattle.motion.specs.declared.side.Side.{Side}
 use Rattle.motion.specs.declared.side.BySide.{BySide}
 use Rattle.relative_motion.specs.declared.approach.Cpa.{Cpa}
@@ -207,3 +208,12 @@ chosen_words (Some c) = 0 ∷ 1 ∷ side c.side ∷ pattern c.magnitude.0 ∷ pa
 -- ---- how many trials there are
 abbrev pub count_words : ℕ → List ℕ
 count_words count = 0 ∷ count ∷ []
+
+-- ---- the motion that is fitted: whether there is one, its course and speed
+abbrev pub motion : Option Vessel → List ℕ
+motion None = 0 ∷ 0 ∷ 0 ∷ 0 ∷ []
+motion (Some v) = 0 ∷ 1 ∷ pattern v.course.0 ∷ pattern v.speed.0 ∷ []
+
+abbrev pub motion_words : Result (Option Vessel) Refusal → List ℕ
+motion_words (Ok m) = motion m
+motion_words (Err why) = refused 4 why

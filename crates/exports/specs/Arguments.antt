@@ -4,6 +4,7 @@
 use Rattle.std.specs.Prelude.{cond, List, map, ℕ, ◌/◌, ◌%◌, ◌^◌, eqb, min, length, take, drop, get_or, replicate, Float, None, Some, Ok, Err}
 use Rattle.std.specs.Float.{binary64}
 use Rattle.std.specs.Float.Ieee.{of_bits}
+use Rattle.std.specs.Int.{w64, cast_signed}
 use Rattle.std.specs.Simd.{first_chunks}
 use Rattle.std.specs.declared.option.Option.{Option}
 use Rattle.std.specs.declared.result.Result.{Result}
@@ -14,6 +15,7 @@ use Rattle.motion.specs.declared.units.Distance.{Distance}
 use Rattle.motion.specs.declared.vessel.Vessel.{Vessel}
 use Rattle.motion.specs.declared.vessel.Contact.{Contact}
 use Rattle.motion.specs.Capacity.{max_contacts}
+use Rattle.track.specs.declared.window.Plot.{Plot}
 use Rattle.situation.specs.declared.party.Party.{Party}
 use Rattle.situation.specs.declared.party.Circumstances.{Circumstances}
 use Rattle.situation.specs.declared.config.ColregsConfig.{ColregsConfig}
@@ -116,3 +118,14 @@ entry ws i = entry_of (get_or (contacts ws) i (replicate 7 0))
 -- as many as there is room for
 abbrev pub entries : List ℕ → List Entry
 entries ws = map entry_of (take max_contacts (contacts ws))
+
+-- ---- the plots of a run, which have a list of words of their own: its whole threes, 0 north and 1
+-- east offset, 2 the second, a signed number
+unfoldable pub plot_words : List ℕ → List (List ℕ)
+plot_words ws = first_chunks 3 (length ws / 3) ws
+
+unfoldable pub plot_of : List ℕ → Plot
+plot_of c = record { offset = record { north = float c 0; east = float c 1 }; seconds = cast_signed w64 (word c 2) }
+
+abbrev pub plots : List ℕ → List Plot
+plots ws = map plot_of (plot_words ws)

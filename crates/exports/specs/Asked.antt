@@ -10,6 +10,7 @@ use Rattle.motion.specs.declared.side.BySide.{BySide}
 use Rattle.motion.specs.declared.units.Direction.{Direction}
 use Rattle.motion.specs.declared.units.Distance.{Distance}
 use Rattle.motion.specs.declared.units.RelativeBearing.{RelativeBearing}
+use Rattle.motion.specs.declared.vessel.Vessel.{Vessel}
 use Rattle.relative_motion.specs.declared.approach.Cpa.{Cpa}
 use Rattle.relative_motion.specs.declared.approach.Track.{Track}
 use Rattle.relative_motion.specs.declared.plot.TargetSolution.{TargetSolution}
@@ -36,7 +37,11 @@ use Rattle.ruled_search.specs.declared.RuledManoeuvre.{RuledManoeuvre}
 use Rattle.ruled_search.specs.Ruled.{ruled_answer}
 use Rattle.slowing_search.specs.declared.SlowingManoeuvre.{SlowingManoeuvre}
 use Rattle.slowing_search.specs.Slowing.{slowing_answer}
-use Rattle.exports.specs.Arguments.{own, around, desired, sides, constraints, policy, least, most, contacts, entry, entries, elapsed, config, code}
+use Rattle.track.specs.Window.{latest}
+use Rattle.track.specs.Run.{accepted}
+use Rattle.track.specs.Fit.{fit_answer}
+use Rattle.exports.specs.Plots.{Run, run}
+use Rattle.exports.specs.Arguments.{plots, own, around, desired, sides, constraints, policy, least, most, contacts, entry, entries, elapsed, config, code}
 
 -- what is asked of one that may be refused
 abbrev pub given : {A B : Type 0} → Result A Refusal → (A → Result B Refusal) → Result B Refusal
@@ -114,3 +119,11 @@ abbrev pub search_asked : List ℕ → Option Chosen
 search_asked ws =
     smallest (own ws).motion (floor_of (desired ws)) (map moving (targets (entries ws))) (permits (sides (code ws 13)))
     (least ws) (most ws)
+
+-- ---- of a run of plots: the verdict on the last, with what the window holds, which is the latest 8
+-- of those that are accepted, and the motion that is fitted to these
+abbrev pub window_asked : List ℕ → Run
+window_asked ws = record { verdict = (run (plots ws)).verdict; held = latest 8 (accepted (plots ws)) }
+
+abbrev pub fit_asked : List ℕ → Result (Option Vessel) Refusal
+fit_asked ws = fit_answer (latest 8 (accepted (plots ws)))

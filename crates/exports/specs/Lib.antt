@@ -3,3 +3,4 @@ pub mod Answers
 pub mod Arguments
 pub mod Asked
 pub mod Picture
+pub mod Plots

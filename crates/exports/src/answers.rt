@@ -11,6 +11,7 @@ use manoeuvre::AvoidanceManoeuvre;
 use math::duration::Duration;
 use motion::side::Side;
 use motion::units::{Direction, Distance, RelativeBearing};
+use motion::vessel::Vessel;
 use relative_motion::approach::{Approach, ApproachDistance, Cpa};
 use relative_motion::course::Avoidance;
 use relative_motion::plot::TargetSolution;
@@ -410,4 +411,20 @@ pub(crate) fn count_words(count: usize) -> [u64; 2]
     ensures { result ≡ Spec.count_words count }
 {
     [0, count as u64]
+}
+
+// ---- the motion that is fitted
+fn motion(m: Option<Vessel>) -> [u64; 4]
+    ensures { result ≡ Spec.motion m }
+{
+    match m {
+        None => [0; 4],
+        Some(v) => [0, 1, pattern(v.course.0), pattern(v.speed.0)],
+    }
+}
+
+pub(crate) fn motion_words(answer: Result<Option<Vessel>, Refusal>) -> [u64; 4]
+    ensures { result ≡ Spec.motion_words answer }
+{
+    answer.map_or_else(refused, motion)
 }

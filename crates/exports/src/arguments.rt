@@ -13,10 +13,11 @@ use manoeuvre::trials::TrialList;
 use math::duration::Duration;
 use motion::capacity::MAX_CONTACTS;
 use motion::units::{Angle, Direction, Distance, RateOfTurn, Speed};
-use motion::vessel::{Contact, Vessel};
+use motion::vessel::{Components, Contact, Vessel};
 use situation::config::ColregsConfig;
 use situation::party::{Circumstances, Party, VesselCategory, Visibility};
 use std::num::f64_from_bits_with_nan;
+use track::window::Plot;
 
 // How many words come before the contacts.
 const BEFORE: usize = 20;
@@ -217,4 +218,27 @@ pub(crate) fn entries(words: &[u64]) -> ArrayVec<Entry, MAX_CONTACTS>
         t.push(entry_of(*words));
     }
     t
+}
+
+// ---- the plots of a run
+// The whole threes of words.
+#[tactic(auto, unfolding(crate::specs::Arguments::plot_words))]
+pub(crate) fn plot_words(words: &[u64]) -> &[[u64; 3]]
+    ensures { result.now ≡ Spec.plot_words words.now }
+{
+    let (plots, _) = words.as_chunks::<3>();
+    plots
+}
+
+#[tactic(auto, unfolding(crate::specs::Arguments::plot_of))]
+pub(crate) fn plot_of(words: [u64; 3]) -> Plot
+    ensures { result ≡ Spec.plot_of words }
+{
+    Plot {
+        offset: Components {
+            north: float(&words, 0),
+            east: float(&words, 1),
+        },
+        seconds: word(&words, 2).cast_signed(),
+    }
 }

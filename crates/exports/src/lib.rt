@@ -7,6 +7,7 @@
 mod answers;
 mod arguments;
 mod picture;
+mod plots;
 
 ghost use Rattle.std.specs.Prelude.{◌≡◌};
 ghost use Rattle.situation.specs.Situation as Situation;
@@ -16,6 +17,7 @@ ghost use Rattle.exports.specs.Answers as Answer;
 ghost use Rattle.exports.specs.Arguments as Argument;
 ghost use Rattle.exports.specs.Asked as Asked;
 ghost use Rattle.exports.specs.Picture as Picture;
+ghost use Rattle.exports.specs.Plots as Plots;
 
 use assessment::assess::CollisionAssessment;
 use avoidance::search::{Chosen, Search, Sides};
@@ -263,4 +265,22 @@ pub extern "C" fn port_trial(part: u32, words: &[u64]) -> u64
 {
     let trial = arguments::trials(words).trial(arguments::which(words));
     answers::word(&answers::figure(trial), part)
+}
+
+// A run of plots, handed to an empty window one after the other: the verdict on the last, and what
+// the window holds, which is the latest 8 of those that are accepted.
+#[unsafe(no_mangle)]
+pub extern "C" fn port_window(part: u32, words: &[u64]) -> u64
+    ensures { result ≡ Plots.window_word (Asked.window_asked words.now) part }
+{
+    plots::window_word(plots::run(words), part)
+}
+
+// The motion that is fitted after such a run: that which the latest 8 of those that are accepted
+// give, worked out afresh.
+#[unsafe(no_mangle)]
+pub extern "C" fn port_fit(part: u32, words: &[u64]) -> u64
+    ensures { result ≡ Answer.word (Answer.motion_words (Asked.fit_asked words.now)) part }
+{
+    answers::word(&answers::motion_words(plots::run(words).window.fit()), part)
 }

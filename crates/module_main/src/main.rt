@@ -38,7 +38,9 @@ impl Replayed for Module {
             12 => exports::port_collision_picture(part, words),
             13 => exports::port_slowing_search(part, words),
             14 => exports::port_trial_count(part, words),
-            _ => exports::port_trial(part, words),
+            15 => exports::port_trial(part, words),
+            16 => exports::port_window(part, words),
+            _ => exports::port_fit(part, words),
         }
     }
 }

@@ -21,6 +21,7 @@ pub mod outside;
 pub mod sheet;
 pub mod slowing_calls;
 pub mod to_windward;
+pub mod track_calls;
 pub mod traffic_calls;
 #[allow(dead_code)]
 pub mod units;
@@ -32,8 +33,8 @@ pub use colregs::{
     ColregsConfig, Encounter, PermittedManoeuvre, Responsibility, Rule, Ruling, Situation, Tack, VesselCategory, Visibility,
 };
 
-// What assessment.rs and avoidance.rs take from the roots of the kernel, of kinavis and of their own crate.
-pub use outside::{event, inline, position, sailings, snapshot, time, track, Traffic, MAX_TARGETS};
+// What assessment.rs, avoidance.rs and track.rs take from the roots of the kernel, of kinavis and of their own crate.
+pub use outside::{event, inline, position, sailings, snapshot, time, Traffic, MAX_TARGETS};
 
 /// Functions under libm's names that the standard library answers.
 macro_rules! of_std {

@@ -63,6 +63,12 @@ pub fn duration_from_hours(hours: f64) -> Result<Duration> {
     Ok(Duration::try_from_secs_f64(hours * 3600.0).map_err(|_| KernelError::Unrepresentable { what: "a time" })?)
 }
 
+impl Distance {
+    pub fn from_nautical_miles(miles: f64) -> Result<Self> {
+        finite(miles, "a distance").map(Self)
+    }
+}
+
 // Only the three-dimensional part, which is not ported, calls what follows.
 
 impl Distance {
