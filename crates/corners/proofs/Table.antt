@@ -235,7 +235,9 @@ table =
     ∷ prints (sample_header ++ (0x9000_0007 ∷ [])) "REFUSED 15\n"
     ∷ prints (sample_contact ++ sample_header) "REFUSED 15\n"
     ∷ prints (sample_header ++ (0x9000_0007 ∷ 0xA000_0000 ∷ 0xB000_1000 ∷ 0xC000_0000 ∷ 0xD000_0000 ∷ 0xE000_0008 ∷ [])) "REFUSED 16\n"
-    -- the wind: power-driven vessels take no notice; on one tack the one to windward keeps clear, from 90 degrees off the line of sight; of one whose tack is not known the port tack keeps clear where she is to windward (request R-2); 360 is refused, after the limits and before the contacts; the word stands at its place, once
+    -- the wind: power-driven vessels take no notice; on one tack the one to windward keeps clear, from 90 degrees off the line of sight; of one
+    -- whose tack is not known the port tack keeps clear where she is to windward (request R-2); 360 is refused, after the limits and before the
+    -- contacts; the word stands at its place, once
     ∷ prints (sample_header ++ (0xF001_6800 ∷ sample_contact)) "CONTACT 7 CLOSING 0.000 1440 DANGEROUS OVERTAKING GIVEWAY 13\nALTER S 15.000 15.000 1.035 7\n"
     ∷ prints (sample_header ++ (0xF000_0000 ∷ [])) "ALTER S 0.000 0.000 FREE NONE\n"
     ∷ prints (sailing_header ++ sailing_contact) "CONTACT 1 STATIONARY 4.000 - OPENING CROSSING-S UNDETERMINED 12\nALTER S 0.000 0.000 4.000 1\n"
@@ -261,5 +263,23 @@ table =
     ∷ []
 
 pub holds : every table ≡ true
-unfolding abaft abs add along alter_line altered angle_steps search_answer answered approach approach_from arcsine.arcsine_steps arcsine.arcsine_units arcsine.at_most arcsine.fits_in arcsine.rest arcsine.rest_step arcsine.scale arcsine.scale_from arcsine.upper_steps arctangent_steps asin.asin asin.in_domain aspect_of assess_answer assessment at_speed atan2 avoid_answer avoid_checks avoidance_of avoided both_finite bow_answer bytes category_checks category_of choice search choice_of circular.from_units circular.in_domain circular.scaled clamped clearing clears clock closest closing_rate code_checks constraint_checks constraints_answer constraints_of contact_count contact_line contact_lines contacts_checks cos cosine_divisors cosine_step cosine_units course_answer course_for cpa_answer crossing decided decimal_of degrees_per_radian determinant difference digits_up_to direction_of distance div drift_of drift_per_hour encounter_checks encounter_of entry_checks entry_of eq even geometry_of first first_rows fit_answer flat_map floor_of fold folds.turned forward_of_beam from_hours from_seconds grazing greatest greatest_to half_fold reciprocal header_of heading horner hours_of hypot hypots.in_domain id_at in_both in_order in_range is_accepted is_before is_closing is_direction is_distance is_effectively_zero is_head_on is_offset is_speed is_time is_width nearer larger last layout le line_of lines_of lt manoeuvres.manoeuvre manoeuvres.side_of manoeuvres.turned mul nanos_in neg negative not_above octant of_bits of_int offered offset Listed.first ordered own_comes_up own_of own_overtakes party party_checks party_of contact_clears permitted placed plot_answer plot_checks plot_verdict plots.target_of policy_answer policy_of rule17_port rule19_port quarters range_rate readable refused_line relative_motion relative_of relative_speed relative_velocity rem removed report resolved rest risk_at round row_from rows_of rule18 ruled ruled_answer ruled_checks ruling_answer ruling_for ruling_of scaled_by seed seeded_choice seeded_side shared_sides sheet_verdict side_choice side_of sides_of sin sine_divisors sine_step sine_units situation situation_checks size solution solved speed_of spelled sqrt square rule19_starboard sub table tally target_comes_up target_of target_overtakes thousandths_of three_decimals time_of time_to_go to_bits to_degrees to_radians to_unsigned to_usize trial trial_clears trials trials_from turned_minus turned_units unit units_of up_to value_checks values.scaled velocity verdict vessel_of visibility_of whole_fold wind_from with_heading with_rate_of_turn with_wind_from words
+unfolding abaft abs add along alter_line altered angle_steps search_answer answered approach approach_from arcsine.arcsine_steps arcsine.arcsine_units
+    arcsine.at_most arcsine.fits_in arcsine.rest arcsine.rest_step arcsine.scale arcsine.scale_from arcsine.upper_steps arctangent_steps asin.asin
+    asin.in_domain aspect_of assess_answer assessment at_speed atan2 avoid_answer avoid_checks avoidance_of avoided both_finite bow_answer bytes
+    category_checks category_of choice search choice_of circular.from_units circular.in_domain circular.scaled clamped clearing clears clock closest
+    closing_rate code_checks constraint_checks constraints_answer constraints_of contact_count contact_line contact_lines contacts_checks cos
+    cosine_divisors cosine_step cosine_units course_answer course_for cpa_answer crossing decided decimal_of degrees_per_radian determinant
+    difference digits_up_to direction_of distance div drift_of drift_per_hour encounter_checks encounter_of entry_checks entry_of eq even geometry_of
+    first first_rows fit_answer flat_map floor_of fold folds.turned forward_of_beam from_hours from_seconds grazing greatest greatest_to half_fold
+    reciprocal header_of heading horner hours_of hypot hypots.in_domain id_at in_both in_order in_range is_accepted is_before is_closing is_direction
+    is_distance is_effectively_zero is_head_on is_offset is_speed is_time is_width nearer larger last layout le line_of lines_of lt
+    manoeuvres.manoeuvre manoeuvres.side_of manoeuvres.turned mul nanos_in neg negative not_above octant of_bits of_int offered offset Listed.first
+    ordered own_comes_up own_of own_overtakes party party_checks party_of contact_clears permitted placed plot_answer plot_checks plot_verdict
+    plots.target_of policy_answer policy_of rule17_port rule19_port quarters range_rate readable refused_line relative_motion relative_of
+    relative_speed relative_velocity rem removed report resolved rest risk_at round row_from rows_of rule18 ruled ruled_answer ruled_checks
+    ruling_answer ruling_for ruling_of scaled_by seed seeded_choice seeded_side shared_sides sheet_verdict side_choice side_of sides_of sin
+    sine_divisors sine_step sine_units situation situation_checks size solution solved speed_of spelled sqrt square rule19_starboard sub table tally
+    target_comes_up target_of target_overtakes thousandths_of three_decimals time_of time_to_go to_bits to_degrees to_radians to_unsigned to_usize
+    trial trial_clears trials trials_from turned_minus turned_units unit units_of up_to value_checks values.scaled velocity verdict vessel_of
+    visibility_of whole_fold wind_from with_heading with_rate_of_turn with_wind_from words
 holds = refl

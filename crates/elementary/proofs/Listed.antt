@@ -3,7 +3,8 @@ use Prim.Native.Nat.{◌≤◌}
 use native.Mathlib.Omega.{arith}
 use Rattle.elementary.specs.Refusal.{number_of}
 use Rattle.elementary.specs.declared.error.Refusal.{Refusal}
-use Rattle.elementary.specs.declared.error.Refusal.TheVariants.{Angle, Speed, Distance, Constraints, NoTrialClears, Time, AlongOwnTrack, NotAhead, InsideDesired, NoOwnSpeed, NoOtherCourse, Config, NoSharedSide, TooManyContacts, Layout, UnknownCode, TooFewPlots, PlotTime}
+use Rattle.elementary.specs.declared.error.Refusal.TheVariants.{Angle, Speed, Distance, Constraints, NoTrialClears, Time, AlongOwnTrack}
+use Rattle.elementary.specs.declared.error.Refusal.TheVariants.{NotAhead, InsideDesired, NoOwnSpeed, NoOtherCourse, Config, NoSharedSide, TooManyContacts, Layout, UnknownCode, TooFewPlots, PlotTime}
 
 pub listed : (r : Refusal) → (1 ≤ number_of r) × (number_of r ≤ 18)
 listed Angle = omega arith

@@ -2,7 +2,8 @@
 use Rattle.std.specs.Prelude.{ℕ, Err, Ok}
 use Rattle.std.specs.declared.result.Result.{Result}
 use Rattle.elementary.specs.declared.error.Refusal.{Refusal}
-use Rattle.elementary.specs.declared.error.Refusal.TheVariants.{Angle, Speed, Distance, Constraints, NoTrialClears, Time, AlongOwnTrack, NotAhead, InsideDesired, NoOwnSpeed, NoOtherCourse, Config, NoSharedSide, TooManyContacts, Layout, UnknownCode, TooFewPlots, PlotTime}
+use Rattle.elementary.specs.declared.error.Refusal.TheVariants.{Angle, Speed, Distance, Constraints, NoTrialClears, Time, AlongOwnTrack}
+use Rattle.elementary.specs.declared.error.Refusal.TheVariants.{NotAhead, InsideDesired, NoOwnSpeed, NoOtherCourse, Config, NoSharedSide, TooManyContacts, Layout, UnknownCode, TooFewPlots, PlotTime}
 
 abbrev pub number_of : Refusal → ℕ
 number_of Angle = 1

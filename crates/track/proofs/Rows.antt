@@ -90,5 +90,8 @@ rows =
         ∷ at 0x4022_0000_0000_0000 0x4022_0000_0000_0000 (pos 100) ∷ at 0x4000_0000_0000_0000 0 (pos 150) ∷ []
 
 pub rows_hold : every rows ≡ true
-unfolding rows abs add added angle_steps arctangent_steps at_speed atan2 both_finite cosine_divisors cosine_step cosine_units degrees_per_radian direction_of div eq fit_answer fitted fold from_velocity greatest greatest_to horner hours hypot hypot_ordered in_domain in_range is_offset is_time latest le lt mean mul neg not_above octant of_bits of_int placed products rem round scaled_by sine_divisors sine_step sine_units size sqrt square sub sum to_bits to_degrees turned units_of up_to verdict whole_fold window_after
+unfolding rows abs add added angle_steps arctangent_steps at_speed atan2 both_finite cosine_divisors cosine_step cosine_units degrees_per_radian
+    direction_of div eq fit_answer fitted fold from_velocity greatest greatest_to horner hours hypot hypot_ordered in_domain in_range is_offset
+    is_time latest le lt mean mul neg not_above octant of_bits of_int placed products rem round scaled_by sine_divisors sine_step sine_units size
+    sqrt square sub sum to_bits to_degrees turned units_of up_to verdict whole_fold window_after
 rows_hold = refl
