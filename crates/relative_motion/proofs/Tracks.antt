@@ -48,7 +48,7 @@ use Rattle.trigonometry.proofs.Sizes.{sin-small, cos-small}
 use Rattle.relative_motion.specs.Course.{one, clamped, grazing, offered, at_speed, along, choice_of, alteration_to, is_nothing, avoidance_of, course_for, course_if_accepted, course_answer}
 use Rattle.std.specs.declared.option.Option.{Option}
 use Rattle.relative_motion.specs.Offers.{best as offer}
-use Rattle.relative_motion.specs.Course.{smaller as smaller-of}
+use Rattle.relative_motion.specs.Course.{smaller as smaller-of, larger as larger-of}
 use Rattle.relative_motion.specs.Sound.{HeldVessel, HeldContact, AllGood, FiniteAlteration, FiniteCourse}
 use Rattle.relative_motion.proofs.Sizes.{all_good, constant, constant_small, degrees_small, direction_small, distance-small, speed_small, half_turn-small, in-sine-domain, velocity-small}
 use Rattle.relative_motion.proofs.Finite.{clear}
@@ -236,13 +236,17 @@ smaller-finite : (best : Option Best) (a c : Float) → FiniteBest best → T (f
 smaller-finite None a c f h = h
 smaller-finite (Some b) a c f h = better (lt a b.alteration) (Some (offer a c)) (Some b) h f
 
+larger-finite : (best : Option Best) (a c : Float) → FiniteBest best → T (finite c) → FiniteBest (larger-of best a c)
+larger-finite None a c f h = h
+larger-finite (Some b) a c f h = better (lt b.alteration a) (Some (offer a c)) (Some b) h f
+
 offered-finite : (own course : Float) (choice : BySide (Option Best)) → T (finite course) → FiniteChoice choice → FiniteChoice (offered own course choice)
 unfolding offered
 offered-finite own course choice h f = go (lt Check.zero (half_fold (course ⊖ own))) (lt (half_fold (course ⊖ own)) Check.zero)
   where
-    go : (b c : Bool) → FiniteChoice (cond b (record { starboard = smaller-of choice.starboard (half_fold (course ⊖ own)) course; port = choice.port }) (cond c (record { starboard = choice.starboard; port = smaller-of choice.port (neg (half_fold (course ⊖ own))) course }) (record { starboard = choice.starboard; port = choice.port })))
+    go : (b c : Bool) → FiniteChoice (cond b (record { starboard = smaller-of choice.starboard (half_fold (course ⊖ own)) course; port = choice.port }) (cond c (record { starboard = choice.starboard; port = larger-of choice.port (half_fold (course ⊖ own)) course }) (record { starboard = choice.starboard; port = choice.port })))
     go true c = (smaller-finite choice.starboard (half_fold (course ⊖ own)) course f.0 h, f.1)
-    go false true = (f.0, smaller-finite choice.port (neg (half_fold (course ⊖ own))) course f.1 h)
+    go false true = (f.0, larger-finite choice.port (half_fold (course ⊖ own)) course f.1 h)
     go false false = (f.0, f.1)
 
 -- either of two choices

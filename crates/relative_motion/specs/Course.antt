@@ -23,7 +23,7 @@ use Rattle.relative_motion.specs.declared.best_course.Best.{Best}
 use Rattle.motion.specs.declared.side.BySide.{BySide}
 use Rattle.motion.specs.Check.{zero, verdict, encounter_checks, distance_checks}
 use Rattle.motion.specs.Vessel.{unit, velocity}
-pub use Rattle.relative_motion.specs.Offers.{smaller}
+pub use Rattle.relative_motion.specs.Offers.{smaller, larger}
 unfoldable pub use Rattle.relative_motion.specs.Offers.{offered}
 
 -- 1
