@@ -1,6 +1,6 @@
 -- The collision picture (assessment.rs, `CollisionPicture`; 01, assessment.rs: '`most_dangerous`:
 -- highest risk, then least time, then the last listed; none on an empty list').
-use Rattle.std.specs.Prelude.{cond, List, [], ◌∷◌, ◌++◌, ℕ, ltb, length, None}
+use Rattle.std.specs.Prelude.{cond, List, [], ◌∷◌, ◌++◌, ℕ, ltb, length, take, None}
 use Rattle.laws.specs.Fold.{fold}
 use Rattle.motion.specs.Capacity.{max_contacts}
 use Rattle.assessment.specs.declared.risk.CollisionRisk.{CollisionRisk}
@@ -11,7 +11,7 @@ pub use Rattle.assessment.specs.Target.{or_this, time_of, keep}
 unfoldable pub use Rattle.assessment.specs.Target.{outranks, is_at_least}
 
 abbrev pub targets : CollisionPicture → List TargetAssessment
-targets p = p.targets.items
+targets p = take p.count p.list
 
 unfoldable pub pushed : List TargetAssessment → TargetAssessment → List TargetAssessment
 pushed ts e = cond (ltb (length ts) max_contacts) (ts ++ (e ∷ [])) ts

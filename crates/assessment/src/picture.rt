@@ -7,13 +7,14 @@ ghost use Rattle.motion.specs.Capacity.{max_contacts};
 
 use crate::risk::CollisionRisk;
 use crate::target::{TargetAssessment, is_at_least, keep};
-use arrayvec::ArrayVec;
 use motion::capacity::MAX_CONTACTS;
 
-// In the order in which they were listed.
-#[derive(Drop)]
+// The first `count` of the list, in the order in which they were listed. No `ArrayVec`, which can't
+// be copied.
+#[derive(Clone, Copy)]
 pub struct CollisionPicture {
-    targets: ArrayVec<TargetAssessment, MAX_CONTACTS>,
+    count: usize,
+    list: [TargetAssessment; MAX_CONTACTS],
 }
 
 impl CollisionPicture {
@@ -22,7 +23,8 @@ impl CollisionPicture {
         ensures { Spec.targets result ≡ [] }
     {
         CollisionPicture {
-            targets: ArrayVec::new(),
+            count: 0,
+            list: [TargetAssessment::default(); MAX_CONTACTS],
         }
     }
 
@@ -41,21 +43,24 @@ impl CollisionPicture {
     pub fn push(&mut self, e: TargetAssessment)
         ensures { Spec.targets self.new ≡ Spec.pushed (Spec.targets self.old) e }
     {
-        let _ = self.targets.try_push(e);
+        if self.count < MAX_CONTACTS {
+            self.list[self.count] = e;
+            self.count += 1;
+        }
     }
 
     // How many targets are assessed.
     pub fn len(&self) -> usize
         ensures { result ≡ length (Spec.targets self.now) }
     {
-        self.targets.len()
+        self.targets().len()
     }
 
     // Whether no target is assessed.
     pub fn is_empty(&self) -> bool
         ensures { result ≡ eqb (length (Spec.targets self.now)) 0 }
     {
-        self.targets.is_empty()
+        self.targets().is_empty()
     }
 
     // The targets that are assessed, in the order in which they were listed.
@@ -63,7 +68,7 @@ impl CollisionPicture {
         ensures listed { result.now ≡ Spec.targets self.now }
         ensures fits { length result.now ≤ max_contacts }
     {
-        self.targets.as_slice()
+        &self.list[..self.count.min(MAX_CONTACTS)]
     }
 
     // The first that is listed under a number.

@@ -250,9 +250,12 @@ fn search<G: Goal>(goal: G) -> u64
     ensures { (result ≡ greatest_to 49 last_step (G.test goal)) × (result ≤ last_step) }
 {
     let guess = goal.guess();
-    for a in [guess, guess.wrapping_add(1), guess.wrapping_sub(1)] {
-        if a < LAST && goal.settled(a) {
-            return a;
+    // A guess of the grid's last step, as on a diagonal, has that one tried alone.
+    if guess < LAST {
+        for a in [guess, guess.wrapping_add(1), guess.wrapping_sub(1)] {
+            if a < LAST && goal.settled(a) {
+                return a;
+            }
         }
     }
     if passes(goal, LAST) {

@@ -8,11 +8,15 @@ ghost use Rattle.std.specs.Float.Ieee.{of_bits};
 ghost use Rattle.std.specs.Io.KnownBytes.{Appends};
 ghost use Rattle.replay.specs.Record as Spec;
 
+use arrayvec::ArrayVec;
 use std::io::{self, ErrorKind, Read, Write};
 use std::num::f64_from_bits_with_nan;
 
 // How many records are answered at most: a loop is proved to end, which an input need not.
 const MOST: usize = 1000000;
+
+// How long the line of an answer is.
+const LINE: usize = 17;
 
 // What a program replays: the answer to a record.
 pub trait Replayed {
@@ -48,10 +52,14 @@ pub fn low_half(word: u64) -> u32
     (word % (1 << 32)) as u32
 }
 
+// Puts an answer's line into the output by one write, which has no buffer of its own: `writeln!`
+// would write the zeros, the digits and the line's end one after the other.
 fn put<W: Write>(output: &mut W, v: u64) -> io::Result<()>
     ensures { OnOk result (Appends (W.contents output.old) (W.contents output.new) (Spec.line v)) }
 {
-    writeln!(output, "{:016x}", v)
+    let mut line: ArrayVec<u8, LINE> = ArrayVec::new();
+    writeln!(line, "{:016x}", v)?;
+    output.write_all(line.as_slice())
 }
 
 // Answers one record, which has as many bytes as there is room for, and whether there was one: what

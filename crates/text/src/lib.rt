@@ -11,16 +11,17 @@ ghost use Rattle.std.specs.Prelude.{ℕ, List};
 ghost use mathlib.Core.List.{flat_map};
 ghost use Rattle.text.specs.Decimal.{last_digit, decimal_of, three_decimals};
 
-use arrayvec::ArrayVec;
 use std::marker::Model;
 
 // Enough for the lines on 57 contacts and the answer to them.
 pub const ROOM: usize = 8192;
 
-// A contract sees its bytes.
-#[derive(Drop)]
+// The first `len` bytes, and zeros after them, so that a text is made of what it says alone. A
+// contract sees what it says. No `ArrayVec`, which can't be copied.
+#[derive(Clone, Copy)]
 pub struct Text {
-    bytes: ArrayVec<u8, ROOM>,
+    bytes: [u8; ROOM],
+    len: usize,
 }
 
 impl Model for Text {
@@ -28,7 +29,15 @@ impl Model for Text {
 
     ghost Value = { List ℕ };
 
-    ghost view = { λ t. t.bytes.items };
+    ghost use Rattle.text.specs.Held.{said, IsText, text_of, made_again};
+
+    ghost view = { said };
+
+    ghost invariant = { IsText };
+
+    ghost inverse = { text_of };
+
+    ghost inverse_ok = { made_again };
 }
 
 // How items are put at the end of a text.
@@ -55,7 +64,8 @@ impl Text {
         ensures { result ≡ [] }
     {
         Text {
-            bytes: ArrayVec::new(),
+            bytes: [0; ROOM],
+            len: 0,
         }
     }
 
@@ -64,7 +74,7 @@ impl Text {
         ensures value { result.now ≡ self.now }
         ensures fits { length result.now ≤ room }
     {
-        self.bytes.as_slice()
+        &self.bytes[..self.len]
     }
 
     // The bytes of s at the end. The words are byte strings, whose bytes document 01 fixes, and no
@@ -73,8 +83,10 @@ impl Text {
     pub fn put(&mut self, s: &[u8])
         ensures { self.new ≡ appended self.old s.now }
     {
-        let n = self.bytes.remaining_capacity().min(s.len());
-        let _ = self.bytes.try_extend_from_slice(&s[..n]);
+        let n = (ROOM - self.len).min(s.len());
+        let end = self.len + n;
+        self.bytes[self.len..end].copy_from_slice(&s[..n]);
+        self.len = end;
     }
 
     // One byte at the end.

@@ -8,7 +8,7 @@ use Rattle.std.proofs.lemmas.Iterator.{YieldsList-from_slice}
 use Rattle.laws.specs.Fold.{fold}
 use Rattle.assessment.specs.declared.target.TargetAssessment.{TargetAssessment}
 use Rattle.assessment.specs.MostDangerous.{MostDangerous}
-use Rattle.assessment.specs.Picture.{keep, most_dangerous}
+use Rattle.assessment.specs.Picture.{targets, keep, most_dangerous}
 use Rattle.assessment.proofs.Danger.{most_is}
 use Rattle.assessment.proofs.PictureCode.{one_more}
 use Rattle.assessment.proofs.picture.CollisionPicture.most_dangerous.Goals as goal
@@ -16,7 +16,7 @@ use Rattle.assessment.proofs.picture.CollisionPicture.most_dangerous.Goals as go
 pub returns : goal.returns
 unfolding most_dangerous fold
 returns c =
-    let listed : List TargetAssessment = c.args.self.now.targets.items in
+    let listed : List TargetAssessment = targets c.args.self.now in
     let is : c.fold.result ≡ fold keep None listed =
     fold_over fronts (λ y. y.now) _ (λ ys b. b ≡ fold keep None ys) _
     (λ ys a x b q j k. let is : b ≡ keep a x.now = search rules in (is ∙ ap (λ a. keep a x.now) j ∙ sym (one_more None ys x.now), search rules))
