@@ -21,9 +21,23 @@ module _ (t : Inside) (h : IsText t) (s : List ℕ) (n : ℕ) (p : length s ≡ 
   pub held_more : (k : ℕ) → k ≡ n → IsText (record { bytes = put_mid t.len k t.bytes s; len = t.len + n })
   held_more k e = record {
     full =
-        omega (arith, length-append (take t.len t.bytes) (s ++ drop k (drop t.len t.bytes)), length-append s (drop k (drop t.len t.bytes)), length-drop k (drop t.len t.bytes), length-drop t.len t.bytes, length-take t.len t.bytes, h.full, h.within, p, q, e);
+        let rest = drop t.len t.bytes in
+        omega (
+          arith,
+          length-append (take t.len t.bytes) (s ++ drop k rest),
+          length-append s (drop k rest),
+          length-drop k rest,
+          length-drop t.len t.bytes,
+          length-take t.len t.bytes,
+          h.full,
+          h.within,
+          p,
+          q,
+          e,
+        );
     within = q;
     blank_after =
         drop-put_mid t.len k t.bytes s (t.len + n) (omega arith) within (omega (arith, p))
-        ∙ sym (drop-drop n t.len t.bytes) ∙ ap (drop n) h.blank_after ∙ drop-replicate n (room - t.len) 0 ∙ ap zeros (omega arith);
+        ∙ sym (drop-drop n t.len t.bytes) ∙ ap (drop n) h.blank_after ∙ drop-replicate n (room - t.len) 0
+        ∙ ap zeros (omega arith);
   }

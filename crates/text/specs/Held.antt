@@ -25,5 +25,8 @@ text_of s = record { bytes = s ++ zeros (room - length s); len = length s }
 -- a text is the one that says what it says
 pub made_again : (t : Inside) → IsText t → text_of (said t) ≡ t
 made_again t h =
-    ap (λ n. record { bytes = said t ++ zeros (room - n); len = n }) (length-take-le t.len t.bytes (subst (λ n. t.len ≤ n) (sym h.full) h.within))
-    ∙ ap (λ b. record { bytes = b; len = t.len }) (ap (λ z. said t ++ z) (sym h.blank_after) ∙ take-append-drop t.len t.bytes)
+    let inside : t.len ≤ length t.bytes = subst (λ n. t.len ≤ n) (sym h.full) h.within in
+    let whole : said t ++ zeros (room - t.len) ≡ t.bytes =
+    ap (λ z. said t ++ z) (sym h.blank_after) ∙ take-append-drop t.len t.bytes in
+    ap (λ n. record { bytes = said t ++ zeros (room - n); len = n }) (length-take-le t.len t.bytes inside)
+    ∙ ap (λ b. record { bytes = b; len = t.len }) whole
