@@ -1,5 +1,5 @@
 // The collision picture: targets assessed against own craft at one instant (assessment.rs,
-// `CollisionPicture`), a list within the capacity.
+// `CollisionPicture`), a fixed array and a count.
 ghost use Rattle.std.specs.Prelude.{◌≡◌, ◌≤◌, [], ◌∷◌, eqb, length};
 ghost use Rattle.assessment.specs.MostDangerous.{MostDangerous};
 ghost use Rattle.assessment.specs.Picture as Spec;

@@ -24,7 +24,9 @@ fn smaller(best: Option<Best>, offer: Best) -> Option<Best>
         .or(Some(offer))
 }
 
-// The larger of two alterations, the first of equals: to port they are negative.
+// The larger of two alterations, the first of equals: to port they are negative. Beside `smaller`:
+// one function for both, on the alteration to a side, would have `offered` answer port's with the
+// other sign.
 fn larger(best: Option<Best>, offer: Best) -> Option<Best>
     ensures { result ≡ Spec.larger best offer.alteration offer.course }
 {

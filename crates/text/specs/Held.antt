@@ -22,7 +22,7 @@ pub record IsText (t : Inside) : Type 0 where
 abbrev pub text_of : List ℕ → Inside
 text_of s = record { bytes = s ++ zeros (room - length s); len = length s }
 
--- a text is the one that says what it says
+-- the text that says what a text says is that text
 pub made_again : (t : Inside) → IsText t → text_of (said t) ≡ t
 made_again t h =
     let inside : t.len ≤ length t.bytes = subst (λ n. t.len ≤ n) (sym h.full) h.within in
