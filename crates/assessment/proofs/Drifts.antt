@@ -6,7 +6,7 @@ use mathlib.Core.Bool.{Bool, true, false, cond}
 use Prim.Native.Nat.{ℕ, zero, suc, ◌+◌, ◌*◌, ◌^◌, ◌≤◌, ◌<◌}
 use native.Mathlib.Nat.{le_trans, le_of_eq, lt_of_not-le, mul-le-mul, mul-le-mul_right, le_of_mul-le-mul_right, mul-one}
 use native.Mathlib.Omega.{arith}
-use lib.Dec.{T, ltb, ltb→lt, lit<, lit≤}
+use lib.Dec.{T, ltb→lt, lit<, lit≤}
 use lib.Pow.{pow_pos, pow_mono}
 use lib.Ieee.{Float, fits, lt, unlike, of_bits}
 use lib.Ieee.Scale.{finite}

@@ -1,6 +1,6 @@
 -- What the code of `target_from_plot` owes: its cases, and the verdict on the arguments.
 use Rattle.std.specs.Prelude.{Err, Ok}
-use mathlib.Core.Path.{◌≡◌, refl, sym, ap, ◌∙◌}
+use mathlib.Core.Path.{◌≡◌, refl, ap, ◌∙◌}
 use mathlib.Core.Bool.{true, false}
 use lib.Ieee.{Float, le}
 use Rattle.math.specs.Clock.{hours_of}
